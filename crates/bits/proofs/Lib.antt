@@ -1,0 +1,4 @@
+pub mod SumLaws
+pub mod BitLaws
+pub mod UpLaws
+pub mod ByteLaws

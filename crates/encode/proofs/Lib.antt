@@ -1,0 +1,4 @@
+pub mod ShiftLaws
+pub mod CodeLaws
+pub mod RowLaws
+pub mod StageLaws

@@ -1,0 +1,58 @@
+-- `encode::one_length` meets its contract. Assumes nothing.
+use mathlib.Core.Path.{refl, sym, _∙_, subst}
+use Prim.Native.Nat.{_+_, _≤_}
+use native.Mathlib.Omega.{arith}
+use Rattle.table.specs.Checks.{Checked, numberChecks}
+use Rattle.table.proofs.CheckLaws.{one-of, zero-checked}
+use borrow.Author.Needs.{needs}
+use Rattle.encode.proofs.one_length.Statement.{statement}
+use Rattle.encode.proofs.one_length.Tie as tie
+
+add-one-of : tie.Need-add-one-of
+add-one-of c = search needs
+
+one-of-requires : tie.Need-one-of-requires
+one-of-requires c κs = search needs
+
+no-length-requires : tie.Need-no-length-requires
+no-length-requires c κs = search needs
+
+-- past the first test the number is a packet's
+named : (c : tie.Else1) → let s = c .before .before .before .args in Checked (numberChecks (s .s .k + s .s .m) (s .packet)) 0 × (1 ≤ s .packet) × (s .packet ≤ s .s .k + s .s .m)
+named c =
+    let s = c .before .before .before .args in
+    let z = zero-checked (numberChecks (s .s .k + s .s .m) (s .packet)) (c .before .one-of .result) (c .if1 .left) (c .before .one-of .ensures) in
+    let n = one-of (s .s .k + s .s .m) (s .packet) z in
+    (z, n .0, n .1)
+
+returns : tie.Need-returns
+returns c =
+    let w = c .before .before in
+    let s = w .before .before .args in
+    let e = c .no-length .ensures in
+    record {
+      numbered = subst (Checked (numberChecks (s .s .k + s .s .m) (s .packet))) (sym (e .0)) (w .one-of .ensures);
+      refused = λ _. e .1;
+      done = λ z. absurd (c .before .if1 .taken (sym (e .0) ∙ z));
+    }
+
+sub-packet-bytes : tie.Need-sub-packet-bytes
+sub-packet-bytes c = named c .1
+
+packet-bytes-requires : tie.Need-packet-bytes-requires
+packet-bytes-requires c κs = (c .before .before .before .pre, omega (arith, named c .1, named c .2))
+
+returns-2 : tie.Need-returns-2
+returns-2 c = record { numbered = named (c .before) .0; refused = λ h. absurd (h refl); done = λ _. c .packet-bytes .ensures .0 }
+
+pub one-length-spec : {M : Type 1} → statement M
+one-length-spec =
+    tie.close
+    (tie.spec
+    add-one-of
+    one-of-requires
+    no-length-requires
+    returns
+    sub-packet-bytes
+    packet-bytes-requires
+    returns-2)

@@ -1,0 +1,58 @@
+// Shift-and-add: a source, shifted up, added into a parity.
+use table::Table;
+ghost use mathlib.Core.Path.{_≡_};
+ghost use Prim.Native.Nat.{ℕ, _+_, _*_, _%_, _≤_};
+ghost use lib.ListN.{length, take};
+ghost use Rattle.bits.specs.Bits.{bitAt, up};
+
+// Adds src, shifted up by e bits, into the parity that starts at byte `start` of dst.
+pub fn shift_add(dst: &mut [u8], start: usize, src: &[u8], e: usize)
+    requires { ⌜ 8 * length (now src) + e ≤ 512 ⌝ }
+    requires { ⌜ 8 * start + (8 * length (now src) + e) ≤ 8 * length (now dst) ⌝ }
+    ensures { λ _. ⌜ ((p : ℕ) → bitAt (now (dst .exit)) p ≡ (bitAt (now (dst .entry)) p + up (8 * start + e) (bitAt (now (src .entry))) p) % 2) ⌝ }
+{
+    let copy = shifted(src, e);
+    add_bytes(dst, start, &copy, (e + 7) / 8 + src.len());
+}
+
+// src, shifted up by e bits.
+fn shifted(src: &[u8], e: usize) -> [u8; Table::LONGEST]
+    requires { ⌜ 8 * length (now src) + e ≤ 512 ⌝ }
+    ensures { λ r. ⌜ ((p : ℕ) → bitAt r p ≡ up e (bitAt (now (src .entry))) p) ⌝ }
+{
+    let mut copy = [0u8; Table::LONGEST];
+    let q = e / 8;
+    let s = e % 8;
+    let mut i = 0;
+    let mut carry: u16 = 0;
+    while i < src.len() {
+        let w = wide(src[i]) << s | carry;
+        copy[i + q] = (w & 255) as u8;
+        carry = w >> 8;
+        i += 1;
+    }
+    if s != 0 {
+        copy[i + q] = carry as u8;
+    }
+    copy
+}
+
+// x, with room for a shift.
+fn wide(x: u8) -> u16
+    ensures { λ r. ⌜ r ≡ x ⌝ }
+{
+    x as u16
+}
+
+// Adds the first n bytes of src into dst, from byte `start` on.
+fn add_bytes(dst: &mut [u8], start: usize, src: &[u8], n: usize)
+    requires { ⌜ n ≤ length (now src) ⌝ }
+    requires { ⌜ start + n ≤ length (now dst) ⌝ }
+    ensures { λ _. ⌜ ((p : ℕ) → bitAt (now (dst .exit)) p ≡ (bitAt (now (dst .entry)) p + up (8 * start) (bitAt (take n (now (src .entry)))) p) % 2) ⌝ }
+{
+    let mut i = 0;
+    while i < n {
+        dst[start + i] ^= src[i];
+        i += 1;
+    }
+}

@@ -1,0 +1,5 @@
+pub mod OneAnswer
+pub mod Demands
+pub mod Stepping
+pub mod Examples
+pub mod RuledOut

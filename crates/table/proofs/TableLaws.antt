@@ -1,0 +1,147 @@
+-- Laws of tables: their entries, laid out eight to a row, and their limits. Assumes nothing.
+use mathlib.Core.Path.{_≡_, refl, sym, ap, _∙_, fun-ext}
+use mathlib.Core.List.{List, [], _∷_}
+use mathlib.Core.Logic.{_⊎_, inl, inr}
+use mathlib.Core.Bool.{Bool, true, false, cond, and-false}
+use Prim.Native.Nat.{ℕ, zero, suc, _+_, _*_, _/_, _%_, _≤_, _<_}
+use native.Mathlib.Omega.{arith}
+use native.Mathlib.Nat.{mul-le-mul, mul-le-mul-right, div-lt-iff-lt-mul, mod-lt}
+use native.Mathlib.Decide.{decLt, decLe}
+use lib.Dec.{ltb}
+use borrow.Author.Tests.{lt-ltb, le-ltb, ltb-true, ltb-false}
+use Rattle.bits.specs.Bits.{Tells}
+use lib.ListN.{length, replicate, List·getD-eq-default}
+use Rattle.bits.specs.Sums.{at}
+use Rattle.table.specs.Limits.{maxK, maxM, maxShift, cells}
+use Rattle.table.specs.Desk.{entry, mark, sourceBits}
+use Rattle.table.specs.Table.{laidOut, roomOf}
+use Rattle.table.specs.Checks.{Astray}
+
+-- past its end a list has noughts
+pub at-past : (xs : List ℕ) (i : ℕ) → length xs ≤ i → at xs i ≡ 0
+at-past xs i h = List·getD-eq-default xs 0 h
+
+pub noughts-at : (n i : ℕ) → at (replicate n 0) i ≡ 0
+noughts-at zero i = refl
+noughts-at (suc n) zero = refl
+noughts-at (suc n) (suc i) = noughts-at n i
+
+-- what holds of the entries up to the end holds of all
+pub low-all : (xs : List ℕ) (i : ℕ) → length xs ≤ i → ((j : ℕ) → j < i → at xs j ≤ maxShift) → (j : ℕ) → at xs j ≤ maxShift
+low-all xs i l h j = elim (decLt j i) [ yes q ↦ h j q | no q ↦ omega (arith, at-past xs j (omega arith)) ]
+
+pub small-product : (a b : ℕ) → a ≤ 8 → b ≤ 8 → a * b ≤ 64
+small-product a b p q = mul-le-mul p q
+
+-- the entries of a table, inside its columns and outside
+pub entry-in : (k : ℕ) (table : List ℕ) (a b : ℕ) → b < k → at table (a * k + b) ≡ entry k table a b
+unfolding entry
+entry-in k table a b h = rw (lt-ltb b k h)
+
+pub entry-out : (k : ℕ) (table : List ℕ) (a b : ℕ) → k ≤ b → 0 ≡ entry k table a b
+unfolding entry
+entry-out k table a b h = rw (le-ltb b k h)
+
+-- a cell below row m is one of m·k
+pub cell-in : (k m a b : ℕ) → a < m → b < k → a * k + b < m * k
+cell-in k m a b p q = omega (arith, mul-le-mul-right k p)
+
+-- a row past the last has noughts
+pub entry-below : (k m : ℕ) (table : List ℕ) (a b : ℕ) → length table ≡ m * k → m ≤ a → 0 ≡ entry k table a b
+entry-below k m table a b e h = elim (decLt b k) [
+  | yes q ↦ sym (at-past table (a * k + b) (omega (arith, mul-le-mul-right k h))) ∙ entry-in k table a b q
+  | no q ↦ entry-out k table a b (omega arith)
+]
+
+pub laid-in : (k : ℕ) (shifts : List ℕ) (a b : ℕ) → b < k → at shifts (a * maxK + b) ≡ laidOut k shifts a b
+unfolding laidOut
+laid-in k shifts a b h = rw (lt-ltb b k h)
+
+pub laid-past : (k : ℕ) (shifts : List ℕ) (a b : ℕ) → k ≤ b → 0 ≡ laidOut k shifts a b
+unfolding laidOut
+laid-past k shifts a b h = rw (le-ltb b k h)
+
+-- shifts that are the table's entries cell by cell, laid out
+pub laid-entries : (k m : ℕ) (table shifts : List ℕ) → k ≤ maxK → m ≤ maxM → length table ≡ m * k → length shifts ≡ cells → ((i : ℕ) → i < cells → at shifts i ≡ entry k table (i / maxK) (i % maxK)) → laidOut k shifts ≡ entry k table
+laid-entries k m table shifts kh mh size all h = fun-ext λ a. fun-ext λ b. elim (decLt b k) [
+  | no q ↦ sym (laid-past k shifts a b (omega arith)) ∙ entry-out k table a b (omega arith)
+  | yes q ↦ sym (laid-in k shifts a b q) ∙ elim (decLt a maxM) [
+    | no p ↦ at-past shifts (a * maxK + b) (omega arith) ∙ entry-below k m table a b size (omega arith)
+    | yes p ↦
+        let ea : (a * maxK + b) / maxK ≡ a = omega arith in
+        let eb : (a * maxK + b) % maxK ≡ b = omega arith in
+        h (a * maxK + b) (omega arith) ∙ rw (ea, eb)
+  ]
+]
+
+-- the progress that a source may have
+pub room-outside : (k l marks c : ℕ) → k ≤ c → 0 ≡ roomOf k l marks c
+unfolding roomOf
+room-outside k l marks c h = rw (le-ltb c k h)
+
+pub room-present : (k l marks c : ℕ) → mark marks c ≡ true → 0 ≡ roomOf k l marks c
+unfolding roomOf
+room-present k l marks c e = rw (e, and-false)
+
+pub room-missing : (k l marks c : ℕ) → c < k → mark marks c ≡ false → sourceBits l ≡ roomOf k l marks c
+unfolding roomOf
+room-missing k l marks c h e = rw (lt-ltb c k h, e)
+
+-- progress past its room is astray, and within it is not
+pub past-room : (k l marks : ℕ) (g : List ℕ) (c : ℕ) → roomOf k l marks c < at g c → Astray k l marks g c
+past-room k l marks g c h = elim (decLt c k) [
+  | no n ↦ inr ((λ z. omega arith), inl (omega arith))
+  | yes q ↦ go (mark marks c) refl q
+]
+  where
+    go : (v : Bool) → mark marks c ≡ v → c < k → Astray k l marks g c
+    go true e q = inr ((λ z. omega arith), inr e)
+    go false e q = inl (omega (arith, room-missing k l marks c q e))
+
+room-most : (k l marks c : ℕ) → roomOf k l marks c ≤ sourceBits l
+room-most k l marks c = elim (decLt c k) [
+  | no n ↦ omega (arith, room-outside k l marks c (omega arith))
+  | yes q ↦ go (mark marks c) refl q
+]
+  where
+    go : (v : Bool) → mark marks c ≡ v → c < k → roomOf k l marks c ≤ sourceBits l
+    go true e q = omega (arith, room-present k l marks c e)
+    go false e q = omega (arith, room-missing k l marks c q e)
+
+pub within-room : (k l marks : ℕ) (g : List ℕ) (c : ℕ) → at g c ≤ roomOf k l marks c → Astray k l marks g c → ⊥
+within-room k l marks g c h (inl x) = omega (arith, room-most k l marks c)
+within-room k l marks g c h (inr x) = go (x .1)
+  where
+    go : (k ≤ c) ⊎ (mark marks c ≡ true) → ⊥
+    go (inl y) = x .0 (omega (arith, room-outside k l marks c y))
+    go (inr y) = x .0 (omega (arith, room-present k l marks c y))
+
+-- the entries are not all low: one is above
+pub not-low : (t : List ℕ) → (((i : ℕ) → at t i ≤ maxShift) → ⊥) → (i : ℕ) × (maxShift < at t i)
+not-low [] h = absurd (h (λ i. omega (arith, at-past [] i (omega arith))))
+not-low (x ∷ xs) h = elim (decLe x maxShift) [
+  | no n ↦ (0, omega arith)
+  | yes l ↦ let r = not-low xs (λ f. h (both f l)) in (suc (r .0), r .1)
+]
+  where
+    both : ((i : ℕ) → at xs i ≤ maxShift) → x ≤ maxShift → (i : ℕ) → at (x ∷ xs) i ≤ maxShift
+    both f l zero = l
+    both f l (suc i) = f i
+
+-- cells that are the entries of a low table are low
+pub laid-low : (k : ℕ) (table shifts : List ℕ) → length shifts ≡ cells → ((i : ℕ) → at table i ≤ maxShift) → ((i : ℕ) → i < cells → at shifts i ≡ entry k table (i / maxK) (i % maxK)) → (i : ℕ) → at shifts i ≤ maxShift
+laid-low k table shifts all low h i = elim (decLt i cells) [
+  | no n ↦ omega (arith, at-past shifts i (omega arith))
+  | yes l ↦ elim (decLt (i % maxK) k) [
+    | yes q ↦ omega (arith, h i l, low (i / maxK * k + i % maxK), entry-in k table (i / maxK) (i % maxK) q)
+    | no n ↦ omega (arith, h i l, entry-out k table (i / maxK) (i % maxK) (omega arith))
+  ]
+]
+
+-- place i of m·k cells is in a row below m, and in a column
+pub row-in : (i k m : ℕ) → 1 ≤ k → i < m * k → (i / k < m) × (i % k < k)
+row-in i k m p h = (div-lt-iff-lt-mul {k = k} {x = i} {y = m} p .1 h, mod-lt i p)
+
+-- the test of two numbers tells whether what they are equal to is less
+pub tells-less : {x y x′ y′ : ℕ} → x ≡ x′ → y ≡ y′ → Tells (ltb x y) (x′ < y′)
+tells-less {x} {y} e f = record { so = λ t. omega (arith, ltb-true x y t); not-so = λ t h. omega (arith, ltb-false x y t) }

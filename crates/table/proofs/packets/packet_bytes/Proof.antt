@@ -1,0 +1,32 @@
+-- `table::packets::packet_bytes` meets its contract: a source, or a parity. Assumes nothing.
+use Prim.Native.Nat.{_+_, _/_}
+use mathlib.Core.Path.{ap, _∙_}
+use Rattle.table.specs.Table.{deskOf}
+use Rattle.table.proofs.PacketLaws.{source-packet-bytes, parity-packet-bytes}
+use native.Mathlib.Omega.{arith}
+use borrow.Author.Needs.{needs}
+use Rattle.table.proofs.packets.packet_bytes.Statement.{statement}
+use Rattle.table.proofs.packets.packet_bytes.Tie as tie
+
+source-bytes-requires : tie.Need-source-bytes-requires
+source-bytes-requires c κs = search needs
+
+returns : tie.Need-returns
+returns c =
+    let s = c .before .before .before in
+    (c .source-bytes .ensures ∙ source-packet-bytes (deskOf (s .args .s) (s .args .shifts .now)) (s .args .i) (search needs), omega (arith, c .source-bytes .ensures, s .pre .0 .l-high))
+
+packet-bits-requires : tie.Need-packet-bits-requires
+packet-bits-requires c κs = search needs
+
+add-result : tie.Need-add-result
+add-result c = search needs
+
+returns-2 : tie.Need-returns-2
+returns-2 c =
+    let s = c .before .before .before in
+    (ap (λ x. (x + 7) / 8) (c .packet-bits .ensures .0) ∙ parity-packet-bytes (deskOf (s .args .s) (s .args .shifts .now)) (s .args .i) (search needs), omega (arith, c .packet-bits .ensures .1))
+
+pub packet-bytes-spec : {M : Type 1} → statement M
+packet-bytes-spec =
+    tie.close (tie.spec source-bytes-requires returns packet-bits-requires add-result returns-2)

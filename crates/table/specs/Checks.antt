@@ -1,0 +1,78 @@
+-- The list of numbers, in order of checking: a check is its number and what it refuses.
+use mathlib.Core.Path.{_≡_}
+use mathlib.Core.Logic.{_⊎_}
+use mathlib.Core.Bool.{true}
+use mathlib.Core.List.{List, [], _∷_, _++_}
+use Prim.Native.Nat.{ℕ, _+_, _*_, _≤_, _<_}
+use lib.ListN.{length}
+use Rattle.bits.specs.Sums.{at, count}
+use Rattle.table.specs.Limits.{maxK, maxM, maxLength, maxShift}
+use Rattle.table.specs.Desk.{mark, sourceBits}
+
+abbrev pub Checks : Type 1
+Checks = List (ℕ × Type 0)
+
+-- n is the number of the first check that refuses, or 0
+abbrev pub Checked : Checks → ℕ → Type 0
+Checked [] n = n ≡ 0
+Checked (c ∷ cs) n = (c .1 × (n ≡ c .0)) ⊎ ((c .1 → ⊥) × Checked cs n)
+
+-- n is not one of 1 to most
+abbrev pub Outside : ℕ → ℕ → Type 0
+Outside most n = (n < 1) ⊎ (most < n)
+
+-- 1: k or m is outside 1 to 8
+abbrev pub sizeChecks : ℕ → ℕ → Checks
+sizeChecks k m = (1, Outside maxK k ⊎ Outside maxM m) ∷ []
+
+-- 2: the length is outside 1 to 56
+abbrev pub lengthChecks : ℕ → Checks
+lengthChecks l = (2, Outside maxLength l) ∷ []
+
+-- 3: the table is not m·k bytes, or an entry is above 64
+abbrev pub tableChecks : ℕ → ℕ → List ℕ → Checks
+tableChecks k m table = (3, (length table ≡ m * k → ⊥) ⊎ ((i : ℕ) × (maxShift < at table i))) ∷ []
+
+-- 6: a number, counted from 1, is none of n packets or sources
+abbrev pub numberChecks : ℕ → ℕ → Checks
+numberChecks n i = (6, Outside n i) ∷ []
+
+-- a mark above the n packets is set
+abbrev pub MarkAbove : ℕ → ℕ → Type 0
+MarkAbove n marks = (i : ℕ) × (n ≤ i) × (mark marks i ≡ true)
+
+-- how many packets a call asks for
+abbrev pub asked : ℕ → ℕ
+asked k = k
+
+-- 7: the marks are not exactly k
+abbrev pub countChecks : ℕ → ℕ → ℕ → Checks
+countChecks k m marks = (7, count (k + m) (mark marks) ≡ asked k → ⊥) ∷ []
+
+-- 6: a mark above n is set; 7
+abbrev pub marksChecks : ℕ → ℕ → ℕ → Checks
+marksChecks k m marks = (6, MarkAbove (k + m) marks) ∷ countChecks k m marks
+
+-- the progress of source c is above the bits of a source, or not 0 where the source is present or there is none
+abbrev pub Astray : ℕ → ℕ → ℕ → List ℕ → ℕ → Type 0
+Astray k l marks progress c =
+    (sourceBits l < at progress c) ⊎ ((at progress c ≡ 0 → ⊥) × ((k ≤ c) ⊎ (mark marks c ≡ true)))
+
+-- 17: progress above 8·L, or not zero for a source present or a number above k
+abbrev pub progressChecks : ℕ → ℕ → ℕ → List ℕ → Checks
+progressChecks k l marks progress = (17, (c : ℕ) × (c < maxK) × Astray k l marks progress c) ∷ []
+
+-- 4: an input buffer has not the exact length n; 5: an output buffer has not
+abbrev pub inputChecks : ℕ → List ℕ → Checks
+inputChecks n input = (4, length input ≡ n → ⊥) ∷ []
+
+abbrev pub outputChecks : ℕ → List ℕ → Checks
+outputChecks n output = (5, length output ≡ n → ⊥) ∷ []
+
+-- 1 2 3
+abbrev pub shapeChecks : ℕ → ℕ → ℕ → List ℕ → Checks
+shapeChecks k m l table = sizeChecks k m ++ lengthChecks l ++ tableChecks k m table
+
+-- 1 2 3 6 7
+abbrev pub markedChecks : ℕ → ℕ → ℕ → List ℕ → ℕ → Checks
+markedChecks k m l table marks = shapeChecks k m l table ++ marksChecks k m marks

@@ -1,0 +1,5 @@
+pub mod Limits
+pub mod Desk
+pub mod Table
+pub mod Checks
+pub mod Promise

@@ -1,0 +1,465 @@
+// The shift table, the shape that all calls share, and the numbers that refuse a shape.
+pub mod house;
+pub mod judge;
+pub mod packets;
+
+ghost use mathlib.Core.Path.{_≡_};
+ghost use mathlib.Core.List.{_++_};
+ghost use lib.ListN.{length};
+ghost use Prim.Native.Nat.{ℕ, _+_, _*_, _/_, _%_, _≤_, _<_};
+ghost use Rattle.bits.specs.Sums.{at};
+ghost use Rattle.bits.specs.Bits.{Tells};
+ghost use Rattle.table.specs.Limits.{Limited, maxK, maxM, maxLength, maxShift, cells};
+ghost use Rattle.table.specs.Desk.{entry, mark, sourceBits, sourceBytes};
+ghost use Rattle.table.specs.Table.{Within, Holds, Opens, houseCell, laidOut, roomOf};
+ghost use Rattle.table.specs.Checks.{Checked, sizeChecks, lengthChecks, tableChecks, numberChecks, marksChecks, progressChecks, shapeChecks, markedChecks, Astray};
+
+// A shift table: k columns and m rows, its shifts laid out eight to a row as in the full sheet.
+pub struct Table {
+    pub k: usize,
+    pub m: usize,
+    pub shifts: [u8; Table::CELLS],
+}
+
+// What all calls share: k sources of so many bytes, m parities, and the marks of the packets at hand.
+pub struct Shape {
+    pub k: usize,
+    pub m: usize,
+    pub length: usize,
+    pub marks: u64,
+}
+
+// What the checks give: a number, and with number 0 the shape and its table.
+pub struct Opened {
+    pub number: u64,
+    pub shape: Shape,
+    pub table: Table,
+}
+
+// The numbers of the list, one name each.
+pub struct Number {}
+
+impl Number {
+    // k or m is outside 1 to 8
+    pub const SIZE: u64 = 1;
+
+    // the length is outside 1 to 56
+    pub const LENGTH: u64 = 2;
+
+    // the table is not m·k bytes, or an entry is above 64
+    pub const TABLE: u64 = 3;
+
+    // an input buffer has not the exact length
+    pub const INPUT: u64 = 4;
+
+    // an output buffer has not the exact length
+    pub const OUTPUT: u64 = 5;
+
+    // a packet number is outside 1 to n, a source number outside 1 to k, or a mark above n is set
+    pub const PACKET: u64 = 6;
+
+    // the marks are not exactly k
+    pub const MARKS: u64 = 7;
+
+    // no order of steps finishes all missing sources
+    pub const STALL: u64 = 8;
+
+    // a parity at hand has a one above its last bit
+    pub const STRAY: u64 = 9;
+
+    // no sources encode to these packets
+    pub const FOREIGN: u64 = 10;
+
+    // progress above the bits of a source, or not zero for a source present or a number above k
+    pub const PROGRESS: u64 = 17;
+}
+
+// The limits, for the proof that the definitions state the same.
+pub struct Limits {
+    pub sources: u64,
+    pub parities: u64,
+    pub length: u64,
+    pub shift: u8,
+}
+
+impl Table {
+    pub const MAX_K: u64 = 8;
+
+    pub const MAX_M: u64 = 8;
+
+    pub const MAX_LENGTH: u64 = 56;
+
+    pub const MAX_SHIFT: u8 = 64;
+
+    // The sources, as the length of an array of progress numbers.
+    pub const SOURCES: usize = Table::MAX_K as usize;
+
+    // The cells of the full sheet.
+    pub const CELLS: usize = (Table::MAX_K * Table::MAX_M) as usize;
+
+    // The bytes of the longest parity.
+    pub const LONGEST: usize = ((8 * Table::MAX_LENGTH + Table::MAX_SHIFT as u64) / 8) as usize;
+
+    // The full sheet of the house family: parity a and source b, both from 1, have the shift a·(b − 1).
+    pub const HOUSE: [u8; Table::CELLS] = [
+        0,
+        1,
+        2,
+        3,
+        4,
+        5,
+        6,
+        7,
+        0,
+        2,
+        4,
+        6,
+        8,
+        10,
+        12,
+        14,
+        0,
+        3,
+        6,
+        9,
+        12,
+        15,
+        18,
+        21,
+        0,
+        4,
+        8,
+        12,
+        16,
+        20,
+        24,
+        28,
+        0,
+        5,
+        10,
+        15,
+        20,
+        25,
+        30,
+        35,
+        0,
+        6,
+        12,
+        18,
+        24,
+        30,
+        36,
+        42,
+        0,
+        7,
+        14,
+        21,
+        28,
+        35,
+        42,
+        49,
+        0,
+        8,
+        16,
+        24,
+        32,
+        40,
+        48,
+        56,
+    ];
+
+    // The limits that the definitions state are those of the code.
+    pub fn limits() -> Limits
+        ensures { λ r. ⌜ Limited (r .sources) (r .parities) (r .length) (r .shift) ⌝ }
+    {
+        Limits {
+            sources: Table::MAX_K,
+            parities: Table::MAX_M,
+            length: Table::MAX_LENGTH,
+            shift: Table::MAX_SHIFT,
+        }
+    }
+
+    // The table of numbers and bytes that were accepted.
+    pub fn new(k: u64, m: u64, table: &[u8]) -> Table
+        requires { ⌜ Checked (sizeChecks k m ++ tableChecks k m (now table)) 0 ⌝ }
+        ensures { λ r. ⌜ Holds k m (now (table .entry)) r ⌝ }
+    {
+        let shifts = laid_out(k as usize, m as usize, table);
+        Table {
+            k: k as usize,
+            m: m as usize,
+            shifts,
+        }
+    }
+
+    // The house table of k sources and m parities: the upper left part of the full sheet.
+    pub fn house(k: u64, m: u64) -> Table
+        requires { ⌜ (k ≤ maxK) × (m ≤ maxM) ⌝ }
+        ensures { λ r. ⌜ (r .k ≡ k) × (r .m ≡ m) × ((i : ℕ) → i < cells → at (r .shifts) i ≡ houseCell i) ⌝ }
+    {
+        Table {
+            k: k as usize,
+            m: m as usize,
+            shifts: Table::HOUSE,
+        }
+    }
+
+    // A table that stands where there is none.
+    fn least() -> Table
+        ensures { λ r. ⌜ ((i : ℕ) → at (r .shifts) i ≤ maxShift) ⌝ }
+    {
+        Table {
+            k: 1,
+            m: 1,
+            shifts: [0u8; Table::CELLS],
+        }
+    }
+}
+
+// The shift at cell i of the sheet, of a table of k columns and m rows; 0 outside it.
+fn cell(k: usize, m: usize, table: &[u8], i: usize) -> u8
+    requires { ⌜ (k ≤ maxK) × (m ≤ maxM) × (length (now table) ≡ m * k) ⌝ }
+    ensures { λ r. ⌜ r ≡ entry k (now (table .entry)) (i / maxK) (i % maxK) ⌝ }
+{
+    let a = i / Table::SOURCES;
+    let b = i % Table::SOURCES;
+    if k <= b {
+        return 0;
+    }
+    if m <= a {
+        return 0;
+    }
+    table[a * k + b]
+}
+
+// The bytes of a table, row by row, laid out eight to a row, and 0 elsewhere.
+fn laid_out(k: usize, m: usize, table: &[u8]) -> [u8; Table::CELLS]
+    requires { ⌜ (k ≤ maxK) × (m ≤ maxM) × (length (now table) ≡ m * k) ⌝ }
+    ensures { λ r. ⌜ ((i : ℕ) → i < cells → at r i ≡ entry k (now (table .entry)) (i / maxK) (i % maxK)) ⌝ }
+{
+    let mut shifts = [0u8; Table::CELLS];
+    let mut i = 0;
+    while i < Table::CELLS {
+        shifts[i] = cell(k, m, table, i);
+        i += 1;
+    }
+    shifts
+}
+
+// Whether every entry is a shift that is taken.
+fn low(table: &[u8]) -> bool
+    ensures { λ r. ⌜ Tells r ((i : ℕ) → at (now (table .entry)) i ≤ maxShift) ⌝ }
+{
+    let mut i = 0;
+    while i < table.len() {
+        if Table::MAX_SHIFT < table[i] {
+            return false;
+        }
+        i += 1;
+    }
+    true
+}
+
+// 1.
+pub fn size_number(k: u64, m: u64) -> u64
+    ensures { λ r. ⌜ Checked (sizeChecks k m) r ⌝ }
+{
+    if k < 1 {
+        return Number::SIZE;
+    }
+    if Table::MAX_K < k {
+        return Number::SIZE;
+    }
+    if m < 1 {
+        return Number::SIZE;
+    }
+    if Table::MAX_M < m {
+        return Number::SIZE;
+    }
+    0
+}
+
+// 2.
+fn length_number(l: u64) -> u64
+    ensures { λ r. ⌜ Checked (lengthChecks l) r ⌝ }
+{
+    if l < 1 {
+        return Number::LENGTH;
+    }
+    if Table::MAX_LENGTH < l {
+        return Number::LENGTH;
+    }
+    0
+}
+
+// 3.
+pub fn table_number(k: u64, m: u64, table: &[u8]) -> u64
+    requires { ⌜ (k ≤ maxK) × (m ≤ maxM) ⌝ }
+    ensures { λ r. ⌜ Checked (tableChecks k m (now (table .entry))) r ⌝ }
+{
+    if table.len() as u64 != m * k {
+        return Number::TABLE;
+    }
+    if low(table) { 0 } else { Number::TABLE }
+}
+
+// 6, for a number that is to be one of 1 to n.
+pub fn one_of(n: u64, i: u64) -> u64
+    ensures { λ r. ⌜ Checked (numberChecks n i) r ⌝ }
+{
+    if i < 1 {
+        return Number::PACKET;
+    }
+    if n < i {
+        return Number::PACKET;
+    }
+    0
+}
+
+// Whether packet i, from 0, is present.
+pub fn marked(marks: u64, i: usize) -> bool
+    requires { ⌜ i < 64 ⌝ }
+    ensures { λ r. ⌜ r ≡ mark marks i ⌝ }
+{
+    (marks >> i) % 2 == 1
+}
+
+// 6 and 7.
+pub fn marks_number(k: usize, m: usize, marks: u64) -> u64
+    requires { ⌜ (k ≤ maxK) × (m ≤ maxM) ⌝ }
+    ensures { λ r. ⌜ Checked (marksChecks k m marks) r ⌝ }
+{
+    if marks >> (k + m) != 0 {
+        return Number::PACKET;
+    }
+    if u64::count_ones(marks) as usize != k {
+        return Number::MARKS;
+    }
+    0
+}
+
+// The bits of a source.
+pub fn source_bits(s: Shape) -> usize
+    requires { ⌜ s .length ≤ maxLength ⌝ }
+    ensures { λ r. ⌜ r ≡ sourceBits (s .length) ⌝ }
+{
+    8 * s.length
+}
+
+// The bytes of a source.
+pub fn source_bytes(s: Shape) -> usize
+    ensures { λ r. ⌜ r ≡ sourceBytes (s .length) ⌝ }
+{
+    s.length
+}
+
+// The shift of parity a and source b, both from 0.
+pub fn shift_of(s: Shape, shifts: &[u8; Table::CELLS], a: usize, b: usize) -> usize
+    requires { ⌜ Within s (now shifts) × (a < s .m) × (b < s .k) ⌝ }
+    ensures { λ r. ⌜ (r ≡ laidOut (s .k) (now (shifts .entry)) a b) × (r ≤ maxShift) ⌝ }
+{
+    wide(shifts[a * Table::SOURCES + b])
+}
+
+fn wide(x: u8) -> usize
+    ensures { λ r. ⌜ r ≡ x ⌝ }
+{
+    x as usize
+}
+
+// The progress that source c, from 0, may have: up to its bits where it is missing, else none.
+fn room(s: Shape, c: usize) -> u64
+    requires { ⌜ (s .length ≤ maxLength) × (c < maxK) ⌝ }
+    ensures { λ r. ⌜ r ≡ roomOf (s .k) (s .length) (s .marks) c ⌝ }
+{
+    if s.k <= c {
+        return 0;
+    }
+    if marked(s.marks, c) {
+        return 0;
+    }
+    source_bits(s) as u64
+}
+
+// 17.
+pub fn progress_number(s: Shape, progress: &[u64; Table::SOURCES]) -> u64
+    requires { ⌜ s .length ≤ maxLength ⌝ }
+    ensures { λ r. ⌜ Checked (progressChecks (s .k) (s .length) (s .marks) (now (progress .entry))) r ⌝ }
+{
+    let mut c = 0;
+    while c < Table::SOURCES {
+        if room(s, c) < progress[c] {
+            return Number::PROGRESS;
+        }
+        c += 1;
+    }
+    0
+}
+
+// What stands where a call is refused.
+fn refused(number: u64) -> Opened
+    ensures { λ r. ⌜ (r .number ≡ number) × Within (r .shape) (r .table .shifts) ⌝ }
+{
+    Opened {
+        number,
+        shape: Shape {
+            k: 1,
+            m: 1,
+            length: 1,
+            marks: 0,
+        },
+        table: Table::least(),
+    }
+}
+
+// 1, 2 and 3.
+fn shape_number(k: u64, m: u64, l: u64, table: &[u8]) -> u64
+    ensures { λ r. ⌜ Checked (shapeChecks k m l (now (table .entry))) r ⌝ }
+{
+    let size = size_number(k, m);
+    if size != 0 {
+        return size;
+    }
+    let length = length_number(l);
+    if length != 0 {
+        return length;
+    }
+    table_number(k, m, table)
+}
+
+// Checks 1, 2 and 3, the shape with its marks as they came, and the table.
+pub fn open_shape(k: u64, m: u64, l: u64, table: &[u8], marks: u64) -> Opened
+    ensures { λ r. ⌜ Opens (shapeChecks k m l (now (table .entry))) k m l (now (table .entry)) marks r ⌝ }
+{
+    let number = shape_number(k, m, l, table);
+    if number != 0 {
+        return refused(number);
+    }
+    Opened {
+        number: 0,
+        shape: Shape {
+            k: k as usize,
+            m: m as usize,
+            length: l as usize,
+            marks,
+        },
+        table: Table::new(k, m, table),
+    }
+}
+
+// Checks 1, 2, 3, 6 and 7, the shape and the table.
+pub fn open_marked(k: u64, m: u64, l: u64, table: &[u8], marks: u64) -> Opened
+    ensures { λ r. ⌜ Opens (markedChecks k m l (now (table .entry)) marks) k m l (now (table .entry)) marks r ⌝ }
+{
+    let o = open_shape(k, m, l, table, marks);
+    if o.number != 0 {
+        return o;
+    }
+    let s = o.shape;
+    let number = marks_number(s.k, s.m, marks);
+    if number != 0 {
+        return refused(number);
+    }
+    o
+}

@@ -1,0 +1,10 @@
+pub mod Runs
+pub mod Totals
+pub mod Grow
+pub mod ReadLaws
+pub mod Scan
+pub mod Computed
+pub mod Ends
+pub mod Reached
+pub mod Desks
+pub mod Answers

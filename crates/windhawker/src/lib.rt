@@ -1,0 +1,145 @@
+// The C interface: each export keeps the promise of the call that it passes on. Numbers come back as results, all else in slots.
+use table::Table;
+ghost use Rattle.table.specs.Promise.{FamilyWritten, Judged};
+ghost use Rattle.encode.specs.Promise.{EncodedAll, EncodedOne, PacketMeasured, SurvivorsMeasured};
+ghost use Rattle.walk.specs.Promise.{Walked, Stepped};
+ghost use Rattle.card.specs.Promise.{BlockTaken};
+
+// The house table of k sources and m parities.
+#[no_mangle]
+pub extern "C" fn whx_family_table(k: u64, m: u64, out: &mut [u8]) -> u64
+    ensures { λ r. ⌜ FamilyWritten k m (now (out .entry)) r (now (out .exit)) ⌝ }
+{
+    table::house::family_table(k, m, out)
+}
+
+// Whether differences grow down the table.
+#[no_mangle]
+pub extern "C" fn whx_judge(k: u64, m: u64, table: &[u8], growing: &mut u64) -> u64
+    ensures { λ r. ⌜ Judged k m (now (table .entry)) r (now (growing .exit)) ⌝ }
+{
+    let j = table::judge::judge(k, m, table);
+    *growing = j.growing;
+    j.number
+}
+
+// The bytes of one packet.
+#[no_mangle]
+pub extern "C" fn whx_packet_length(
+    k: u64,
+    m: u64,
+    l: u64,
+    table: &[u8],
+    packet: u64,
+    length: &mut u64,
+) -> u64
+    ensures { λ r. ⌜ PacketMeasured k m l (now (table .entry)) packet r (now (length .exit)) ⌝ }
+{
+    let a = encode::packet_length(k, m, l, table, packet);
+    *length = a.length;
+    a.number
+}
+
+// The bytes of all packets present.
+#[no_mangle]
+pub extern "C" fn whx_survivors_length(
+    k: u64,
+    m: u64,
+    l: u64,
+    table: &[u8],
+    marks: u64,
+    length: &mut u64,
+) -> u64
+    ensures { λ r. ⌜ SurvivorsMeasured k m l (now (table .entry)) marks r (now (length .exit)) ⌝ }
+{
+    let a = encode::survivors_length(k, m, l, table, marks);
+    *length = a.length;
+    a.number
+}
+
+// All parities of the sources.
+#[no_mangle]
+pub extern "C" fn whx_encode_all(
+    k: u64,
+    m: u64,
+    l: u64,
+    table: &[u8],
+    sources: &[u8],
+    out: &mut [u8],
+) -> u64
+    ensures { λ r. ⌜ EncodedAll k m l (now (table .entry)) (now (sources .entry)) (now (out .entry)) r (now (out .exit)) ⌝ }
+{
+    encode::encode_all(k, m, l, table, sources, out)
+}
+
+// One packet of the sources.
+#[no_mangle]
+pub extern "C" fn whx_encode_one(
+    k: u64,
+    m: u64,
+    l: u64,
+    table: &[u8],
+    packet: u64,
+    sources: &[u8],
+    out: &mut [u8],
+) -> u64
+    ensures { λ r. ⌜ EncodedOne k m l (now (table .entry)) packet (now (sources .entry)) (now (out .entry)) r (now (out .exit)) ⌝ }
+{
+    encode::encode_one(k, m, l, table, packet, sources, out)
+}
+
+// The walk from nothing to its end.
+#[no_mangle]
+pub extern "C" fn whx_walk(
+    k: u64,
+    m: u64,
+    l: u64,
+    table: &[u8],
+    marks: u64,
+    count: &mut u64,
+    whole: &mut u64,
+    progress: &mut [u64; Table::SOURCES],
+) -> u64
+    ensures { λ r. ⌜ Walked k m l (now (table .entry)) marks r (now (count .exit)) (now (whole .exit)) (now (progress .exit)) ⌝ }
+{
+    let w = walk::walk(k, m, l, table, marks);
+    let end = w.progress;
+    *count = w.count;
+    *whole = w.whole;
+    *progress = end;
+    w.number
+}
+
+// The next step.
+#[no_mangle]
+pub extern "C" fn whx_next_step(
+    k: u64,
+    m: u64,
+    l: u64,
+    table: &[u8],
+    marks: u64,
+    progress: &[u64; Table::SOURCES],
+    parity: &mut u64,
+    source: &mut u64,
+    after: &mut [u64; Table::SOURCES],
+) -> u64
+    ensures { λ r. ⌜ Stepped k m l (now (table .entry)) marks (now (progress .entry)) r (now (parity .exit)) (now (source .exit)) (now (after .exit)) ⌝ }
+{
+    let g = *progress;
+    let s = walk::next_step(k, m, l, table, marks, g);
+    let end = s.progress;
+    *parity = s.parity;
+    *source = s.source;
+    *after = end;
+    s.number
+}
+
+// One block from a card reader.
+#[no_mangle]
+pub extern "C" fn whx_block(block: &[u8], dest: &mut [u8], length: &mut u64) -> u64
+    ensures { λ r. ⌜ BlockTaken (now (block .entry)) (now (dest .entry)) r (now (length .exit)) (now (dest .exit)) ⌝ }
+{
+    let t = card::block(block, dest);
+    *length = t.length;
+    t.number
+}

@@ -1,0 +1,286 @@
+/*
+ * Windhawker: spread a logbook over memory cards, lose some, read it back.
+ *
+ * SOURCES, PARITIES, PACKETS
+ *   The logbook is cut into k sources of l bytes each. From them the code makes m parities.
+ *   Each card carries one packet: packets 1 to k are the sources themselves, packets k + 1 to
+ *   k + m are the parities 1 to m. Any k of the n = k + m packets are meant to give the sources
+ *   back. k and m are 1 to 8, l is 1 to 56.
+ *
+ * THE SHIFT TABLE
+ *   m rows of k entries, row by row, one byte each, 0 to 64. Entry (a, b) says how many bits
+ *   source b is shifted up before it is added (XOR) into parity a. Its largest entry is called r.
+ *   wh_family_table makes the house table, with which any k packets work.
+ *
+ * BITS
+ *   Bit p of a packet is bit p % 8 of byte p / 8, lowest bit first. Parity a is the XOR, over all
+ *   sources b, of source b shifted up by entry (a, b); the bits past that sum are 0.
+ *
+ * LENGTHS
+ *   A source takes l bytes. Each parity takes P bytes, the fewest that hold 8 * l + r bits.
+ *   Sources to encode, and rebuilt sources, are k * l bytes, source 1 first. Packets at hand stand
+ *   one after another, lowest packet number first, with no gaps. Lengths are exact: one byte too
+ *   many is refused like one too few. wh_packet_length and wh_survivors_length do the sums.
+ *
+ * MARKS
+ *   The packets at hand, told as one number: bit 0 is set when packet 1 is there, bit 1 for packet
+ *   2, and so on. Packets 3 and 4 are marks 12. Exactly k marks are set.
+ *
+ * STEPS, PROGRESS
+ *   Decoding uncovers one bit at a time. progress[b - 1] says how many bits of source b are
+ *   uncovered; it stays 0 for a source that is at hand and for numbers above k. A parity a at hand
+ *   and a missing, unfinished source b are a bare pair when entry (a, b) + progress of b is less
+ *   than entry (a, c) + progress of c for every other missing, unfinished source c. A step takes a
+ *   bare pair and uncovers one more bit of b. When nothing is bare and something is missing, the
+ *   decoding has stalled.
+ *
+ * NUMBERS
+ *   Every call answers with a number. 0 means done. Anything else means refused, and is the first
+ *   of these, in this order, that holds (a call makes the checks that it has the input for):
+ *      1   k or m is outside 1 to 8
+ *      2   l is outside 1 to 56
+ *      3   the table is not m * k bytes long, or an entry is above 64
+ *      6   a packet number is outside 1 to n, a source number outside 1 to k, or a mark above n
+ *          is set
+ *      7   the marks are not exactly k
+ *     17   a progress is above 8 * l, or is not 0 for a source at hand or for a number above k
+ *      4   an input buffer has not the exact length
+ *      5   an output buffer has not the exact length
+ *      8   stalled: no order of steps finishes all missing sources
+ *      9   a parity at hand has a one above bit 8 * l + r - 1
+ *     10   no sources encode to these packets
+ *   and for a block from a card reader, in this order:
+ *     11   fewer than 4 bytes
+ *     12   its length byte LEN is 255, which is reserved
+ *     13   it is not LEN + 4 bytes long
+ *     14   the XOR of all its bytes is not 0
+ *     15   NAD is not 00, or PCB is neither 00 nor 40 hex
+ *     16   LEN is above the length of the destination
+ *
+ * WHAT YOU LEND
+ *   A buffer is a pointer and its length in bytes, always in that order. No call reads or writes
+ *   anything else, and none keeps a pointer after it returns. A refused call writes nothing: your
+ *   output keeps its old bytes, and the results that come back by value are 0 unless a call says
+ *   otherwise. Buffers that you lend to one call must not overlap. NULL with length 0 is fine.
+ *   Any numbers and any bytes may be passed: nothing is cut to fewer bits on its way in.
+ */
+#ifndef WINDHAWKER_H
+#define WINDHAWKER_H
+
+#include <stddef.h>
+#include <stdint.h>
+
+#include "windhawker_limits.h"
+
+#define WH_VERSION "0.1.0"
+#define WH_VERSION_MAJOR 0
+#define WH_VERSION_MINOR 1
+
+#ifdef __cplusplus
+extern "C" {
+#endif
+
+/* What a number means, in a few words. */
+static inline const char *wh_meaning(uint64_t number)
+{
+    static const char *const meanings[] = {
+        "done",
+        "k or m is outside 1 to 8",
+        "the source length is outside 1 to 56",
+        "the table has a wrong length or an entry above 64",
+        "an input buffer has a wrong length",
+        "an output buffer has a wrong length",
+        "no such packet, source or mark",
+        "the marks are not exactly k",
+        "the decoding stalls",
+        "a parity has a one above its last bit",
+        "no sources encode to these packets",
+        "the block has fewer than 4 bytes",
+        "the block's length byte is 255",
+        "the block is not as long as its length byte says",
+        "the block's bytes do not XOR to 0",
+        "the block's first two bytes are not those of a lone block",
+        "the block does not fit into the destination",
+        "progress that no source can have",
+    };
+    return number < sizeof meanings / sizeof meanings[0] ? meanings[number]
+                                                         : "no number of the list";
+}
+
+/* The library wants a place even for no bytes, so NULL with length 0 becomes the place of one. */
+static inline const uint8_t *wh_read_place(const uint8_t *bytes, size_t length)
+{
+    static const uint8_t nothing = 0;
+    return bytes == NULL && length == 0 ? &nothing : bytes;
+}
+
+static inline uint8_t *wh_write_place(uint8_t *bytes, size_t length)
+{
+    static uint8_t nothing = 0;
+    return bytes == NULL && length == 0 ? &nothing : bytes;
+}
+
+/* The functions whx_ are what the archive exports: the number comes back, the other results go
+ * into slots, which are set on every call. Use the functions wh_, which hand out structs. */
+
+/* ---- Tables and lengths ---------------------------------------------------------------------- */
+
+typedef struct {
+    uint64_t number;
+    uint64_t growing; /* 1 yes, 0 no */
+} wh_judged;
+
+typedef struct {
+    uint64_t number;
+    uint64_t length; /* in bytes */
+} wh_measured;
+
+uint64_t whx_family_table(uint64_t k, uint64_t m, uint8_t *out, uint64_t out_len);
+uint64_t whx_judge(uint64_t k, uint64_t m, const uint8_t *table, uint64_t table_len,
+                   uint64_t *growing);
+uint64_t whx_packet_length(uint64_t k, uint64_t m, uint64_t l, const uint8_t *table,
+                           uint64_t table_len, uint64_t packet, uint64_t *length);
+uint64_t whx_survivors_length(uint64_t k, uint64_t m, uint64_t l, const uint8_t *table,
+                              uint64_t table_len, uint64_t marks, uint64_t *length);
+
+/* Writes the house table, m * k bytes: entry (a, b) is a * (b - 1). Checks 1 5. */
+static inline uint64_t wh_family_table(uint64_t k, uint64_t m, uint8_t *out, size_t out_len)
+{
+    return whx_family_table(k, m, wh_write_place(out, out_len), out_len);
+}
+
+/* Says whether the table has growing differences: for rows a < a' and columns b < b',
+ * entry (a, b') - entry (a, b) is less than entry (a', b') - entry (a', b). With such a table any
+ * k packets work. Without, some may: wh_walk tells. Checks 1 3. */
+static inline wh_judged wh_judge(uint64_t k, uint64_t m, const uint8_t *table, size_t table_len)
+{
+    wh_judged judged;
+    judged.number = whx_judge(k, m, wh_read_place(table, table_len), table_len, &judged.growing);
+    return judged;
+}
+
+/* Gives the exact bytes of a packet: l for a source, P for a parity. Checks 1 2 3 6. */
+static inline wh_measured wh_packet_length(uint64_t k, uint64_t m, uint64_t l, const uint8_t *table,
+                                           size_t table_len, uint64_t packet)
+{
+    wh_measured measured;
+    measured.number = whx_packet_length(k, m, l, wh_read_place(table, table_len), table_len, packet,
+                                        &measured.length);
+    return measured;
+}
+
+/* Gives the exact bytes of all packets at hand together. Checks 1 2 3 6 7. */
+static inline wh_measured wh_survivors_length(uint64_t k, uint64_t m, uint64_t l,
+                                              const uint8_t *table, size_t table_len,
+                                              uint64_t marks)
+{
+    wh_measured measured;
+    measured.number = whx_survivors_length(k, m, l, wh_read_place(table, table_len), table_len,
+                                           marks, &measured.length);
+    return measured;
+}
+
+/* ---- Encode ---------------------------------------------------------------------------------- */
+
+uint64_t whx_encode_all(uint64_t k, uint64_t m, uint64_t l, const uint8_t *table,
+                        uint64_t table_len, const uint8_t *sources, uint64_t sources_len,
+                        uint8_t *out, uint64_t out_len);
+uint64_t whx_encode_one(uint64_t k, uint64_t m, uint64_t l, const uint8_t *table,
+                        uint64_t table_len, uint64_t packet, const uint8_t *sources,
+                        uint64_t sources_len, uint8_t *out, uint64_t out_len);
+
+/* Writes all m parities, parity 1 first: m * P bytes. Checks 1 2 3 4 5. */
+static inline uint64_t wh_encode_all(uint64_t k, uint64_t m, uint64_t l, const uint8_t *table,
+                                     size_t table_len, const uint8_t *sources, size_t sources_len,
+                                     uint8_t *out, size_t out_len)
+{
+    return whx_encode_all(k, m, l, wh_read_place(table, table_len), table_len,
+                          wh_read_place(sources, sources_len), sources_len,
+                          wh_write_place(out, out_len), out_len);
+}
+
+/* Writes one packet, a source or a parity: wh_packet_length bytes. Checks 1 2 3 6 4 5. */
+static inline uint64_t wh_encode_one(uint64_t k, uint64_t m, uint64_t l, const uint8_t *table,
+                                     size_t table_len, uint64_t packet, const uint8_t *sources,
+                                     size_t sources_len, uint8_t *out, size_t out_len)
+{
+    return whx_encode_one(k, m, l, wh_read_place(table, table_len), table_len, packet,
+                          wh_read_place(sources, sources_len), sources_len,
+                          wh_write_place(out, out_len), out_len);
+}
+
+/* ---- Walk and step --------------------------------------------------------------------------- */
+
+typedef struct {
+    uint64_t number;
+    uint64_t count;       /* steps made */
+    uint64_t whole;       /* 1 when every missing source is finished, else 0 */
+    uint64_t progress[8]; /* where the walk ends */
+} wh_walked;
+
+typedef struct {
+    uint64_t number;
+    uint64_t parity;      /* 1 to m, or 0 when no pair is bare */
+    uint64_t source;      /* 1 to k, or 0 when no pair is bare */
+    uint64_t progress[8]; /* after the step */
+} wh_stepped;
+
+uint64_t whx_walk(uint64_t k, uint64_t m, uint64_t l, const uint8_t *table, uint64_t table_len,
+                  uint64_t marks, uint64_t *count, uint64_t *whole, uint64_t progress[8]);
+uint64_t whx_next_step(uint64_t k, uint64_t m, uint64_t l, const uint8_t *table, uint64_t table_len,
+                       uint64_t marks, const uint64_t progress[8], uint64_t *parity,
+                       uint64_t *source, uint64_t after[8]);
+
+/* Walks the decoding without data, from progress 0 until nothing is bare. A stall is no refusal
+ * here: the number is 0 and whole is 0. Every order of steps ends at the same progress after the
+ * same count. Checks 1 2 3 6 7. */
+static inline wh_walked wh_walk(uint64_t k, uint64_t m, uint64_t l, const uint8_t *table,
+                                size_t table_len, uint64_t marks)
+{
+    wh_walked walked;
+    walked.number = whx_walk(k, m, l, wh_read_place(table, table_len), table_len, marks,
+                             &walked.count, &walked.whole, walked.progress);
+    return walked;
+}
+
+/* Takes one step from the given progress: the bare pair with the lowest parity, and the progress
+ * after it. With nothing bare the pair is (0, 0) and the progress is the same; refused, the pair
+ * is (0, 0) and the progress all zeros. Checks 1 2 3 6 7 17. */
+static inline wh_stepped wh_next_step(uint64_t k, uint64_t m, uint64_t l, const uint8_t *table,
+                                      size_t table_len, uint64_t marks, const uint64_t progress[8])
+{
+    wh_stepped stepped;
+    stepped.number = whx_next_step(k, m, l, wh_read_place(table, table_len), table_len, marks,
+                                   progress, &stepped.parity, &stepped.source, stepped.progress);
+    return stepped;
+}
+
+/* ---- Block ----------------------------------------------------------------------------------- */
+
+typedef struct {
+    uint64_t number;
+    uint64_t length; /* information bytes */
+} wh_taken;
+
+uint64_t whx_block(const uint8_t *block, uint64_t block_len, uint8_t *dest, uint64_t dest_len,
+                   uint64_t *length);
+
+/* Takes one block from a card reader, whose bytes are NAD, PCB, LEN, information, LRC: copies the
+ * information to the front of the destination and gives how many bytes that were. The rest of the
+ * destination keeps its bytes. Checks 11 12 13 14 15 16. */
+static inline wh_taken wh_block(const uint8_t *block, size_t block_len, uint8_t *dest,
+                                size_t dest_len)
+{
+    wh_taken taken;
+    taken.number = whx_block(wh_read_place(block, block_len), block_len,
+                             wh_write_place(dest, dest_len), dest_len, &taken.length);
+    return taken;
+}
+
+/* ---- The end --------------------------------------------------------------------------------- */
+
+#ifdef __cplusplus
+}
+#endif
+
+#endif

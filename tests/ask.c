@@ -1,0 +1,118 @@
+#include "ask.h"
+
+#include "check.h"
+#include "draw.h"
+#include "random.h"
+
+#include <inttypes.h>
+#include <stdio.h>
+#include <string.h>
+
+enum { WORDS_MOST = 400 };
+
+static void describe(const question *q, char *words)
+{
+    int used = snprintf(words, WORDS_MOST,
+                        "k %" PRIu64 " m %" PRIu64 " l %" PRIu64 " marks %" PRIu64
+                        " packet %" PRIu64 " source %" PRIu64 " lengths %zu %zu %zu %zu table",
+                        q->k, q->m, q->l, q->marks, q->packet, q->source, q->table.length,
+                        q->input.length, q->rebuilt.length, q->output.length);
+    for (size_t i = 0; i < q->table.length && i < 16; i++) {
+        used += snprintf(words + used, (size_t)(WORDS_MOST - used), " %d", q->table.at[i]);
+    }
+}
+
+static void fail_at(const call *asked, const question *q, const char *what)
+{
+    char words[WORDS_MOST];
+    describe(q, words);
+    fail("%s: %s (%s)", asked->name, what, words);
+}
+
+static void expect_answer(const call *asked, const question *q, const answer *got,
+                          const answer *right)
+{
+    char what[120];
+    if (got->number != right->number) {
+        snprintf(what, sizeof what, "number %" PRIu64 ", not %" PRIu64, got->number, right->number);
+        fail_at(asked, q, what);
+    }
+    for (int i = 0; i < RESULTS_MOST; i++) {
+        if (got->results[i] != right->results[i]) {
+            snprintf(what, sizeof what, "result %d is %" PRIu64 ", not %" PRIu64, i + 1,
+                     got->results[i], right->results[i]);
+            fail_at(asked, q, what);
+        }
+    }
+}
+
+static void expect_output(const call *asked, const question *q, const uint8_t *got,
+                          const uint8_t *right)
+{
+    char what[120];
+    for (size_t i = 0; i < q->output.length; i++) {
+        if (got[i] != right[i]) {
+            snprintf(what, sizeof what, "output byte %zu is %02X, not %02X", i, got[i], right[i]);
+            fail_at(asked, q, what);
+        }
+    }
+}
+
+void expect(const call *asked, const question *q, const answer *right, const uint8_t *right_output)
+{
+    static const lending ways[] = {FLUSH_AT_END, FLUSH_AT_START, NULL_IF_EMPTY};
+    for (size_t i = 0; i < sizeof ways / sizeof ways[0]; i++) {
+        lent at = lend(q, ways[i]);
+        answer got = asked->library(q, &at);
+        expect_answer(asked, q, &got, right);
+        expect_output(asked, q, at.output, right_output);
+        if (!inputs_kept(q, &at)) {
+            fail_at(asked, q, "an input has changed");
+        }
+    }
+}
+
+answer compare(const call *asked, const question *q)
+{
+    uint8_t right_output[BYTES_MOST];
+    memcpy(right_output, q->output.at, q->output.length);
+    answer right = asked->model(q, right_output);
+    expect(asked, q, &right, right_output);
+    return right;
+}
+
+void compare_spoiled(const call *asked, uint64_t questions)
+{
+    question q;
+    for (uint64_t i = 0; i < questions; i++) {
+        asked->draw(&q);
+        for (uint64_t places = random_below(4); places > 0; places--) {
+            spoil(&q);
+        }
+        compare(asked, &q);
+    }
+}
+
+void compare_any_numbers(const call *asked, uint64_t questions)
+{
+    question drawn;
+    for (uint64_t i = 0; i < questions; i++) {
+        asked->draw(&drawn);
+        for (size_t place = 0; place < SPOILED_PLACES; place++) {
+            for (size_t value = 0; value < TELLING_VALUES; value++) {
+                question q = drawn;
+                spoil_place(&q, place, value);
+                compare(asked, &q);
+            }
+        }
+    }
+}
+
+void expect_zeros(const uint64_t *slots, size_t count)
+{
+    for (size_t i = 0; i < count; i++) {
+        if (slots[i] != 0) {
+            fail("slot %zu is not 0", i + 1);
+        }
+    }
+}

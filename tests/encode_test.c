@@ -1,0 +1,130 @@
+/* Encode all and encode one. */
+#include "calls_encode.h"
+#include "check.h"
+#include "random.h"
+
+#include <string.h>
+
+static void compare_all_packets(question *q)
+{
+    q->packet = 0;
+    set_bytes(&q->output, q->m * packet_bytes(q, q->k + 1));
+    compare(&encode_all_call, q);
+    for (q->packet = 1; q->packet <= q->k + q->m; q->packet++) {
+        set_bytes(&q->output, packet_bytes(q, q->packet));
+        compare(&encode_one_call, q);
+    }
+}
+
+/* One source of one byte, every byte, at every shift. */
+static void every_byte_at_every_shift(void)
+{
+    question q = house_question(1, 1, 1);
+    q.input.length = 1;
+    for (int shift = 0; shift <= 64; shift++) {
+        for (int byte = 0; byte < 256; byte++) {
+            q.table.at[0] = (uint8_t)shift;
+            q.input.at[0] = (uint8_t)byte;
+            compare_all_packets(&q);
+        }
+    }
+}
+
+/* A source of every length at every shift, all of it ones: each byte carries into the next. */
+static void every_length_at_every_shift(void)
+{
+    question q = house_question(1, 1, 1);
+    for (q.l = 1; q.l <= 56; q.l++) {
+        q.input.length = (size_t)q.l;
+        memset(q.input.at, 0xFF, q.input.length);
+        for (int shift = 0; shift <= 64; shift++) {
+            q.table.at[0] = (uint8_t)shift;
+            compare_all_packets(&q);
+        }
+    }
+}
+
+/* A single one among zeros, at each place of each source. */
+static void every_single_one(void)
+{
+    question q = house_question(3, 3, 3);
+    q.input.length = 9;
+    for (int p = 0; p < 72; p++) {
+        memset(q.input.at, 0, 9);
+        q.input.at[p / 8] = (uint8_t)(1 << (p % 8));
+        compare_all_packets(&q);
+    }
+}
+
+static void house_tables_of_every_size(void)
+{
+    question q = {0};
+    for (q.k = 1; q.k <= 8; q.k++) {
+        for (q.m = 1; q.m <= 8; q.m++) {
+            q.l = random_between(1, 56);
+            set_house_table(&q);
+            set_bytes(&q.input, q.k * q.l);
+            compare_all_packets(&q);
+        }
+    }
+}
+
+static void at_the_limits(void)
+{
+    question q = house_question(8, 8, 56);
+    for (int i = 0; i < 20; i++) {
+        set_house_table(&q);
+        q.table.at[random_below(64)] = 64;
+        set_bytes(&q.input, 8 * 56);
+        compare_all_packets(&q);
+    }
+}
+
+/* Two sources at equal shifts take each other out where they are equal. */
+static void equal_sources_cancel(void)
+{
+    question q = house_question(2, 1, 1);
+    for (q.l = 1; q.l <= 56; q.l++) {
+        set_bytes(&q.input, 2 * q.l);
+        memcpy(q.input.at + q.l, q.input.at, q.l);
+        q.table.at[0] = q.table.at[1] = (uint8_t)random_below(65);
+        compare_all_packets(&q);
+    }
+}
+
+static void encode_all_takes_any_numbers(void)
+{
+    compare_any_numbers(&encode_all_call, 10);
+}
+
+static void encode_all_spoiled(void)
+{
+    compare_spoiled(&encode_all_call, 6000);
+}
+
+static void encode_one_takes_any_numbers(void)
+{
+    compare_any_numbers(&encode_one_call, 10);
+}
+
+static void encode_one_spoiled(void)
+{
+    compare_spoiled(&encode_one_call, 10000);
+}
+
+int main(void)
+{
+    static const named_test tests[] = {
+        {"encode_every_byte_at_every_shift", every_byte_at_every_shift},
+        {"encode_every_length_at_every_shift", every_length_at_every_shift},
+        {"encode_every_single_one", every_single_one},
+        {"encode_house_tables_of_every_size", house_tables_of_every_size},
+        {"encode_at_the_limits", at_the_limits},
+        {"encode_equal_sources_cancel", equal_sources_cancel},
+        {"encode_all_takes_any_numbers", encode_all_takes_any_numbers},
+        {"encode_all_spoiled", encode_all_spoiled},
+        {"encode_one_takes_any_numbers", encode_one_takes_any_numbers},
+        {"encode_one_spoiled", encode_one_spoiled},
+    };
+    return run_named_tests(tests, sizeof tests / sizeof tests[0]);
+}

@@ -1,0 +1,75 @@
+/* Worked examples of blocks,
+ * and inputs that tell known wrong programs from right ones. */
+#include "calls_block.h"
+#include "check.h"
+#include "example.h"
+
+#include <string.h>
+
+static question block(const char *hex)
+{
+    question none = {0};
+    return with_input(none, hex);
+}
+
+static void block_AA_55(void)
+{
+    gives(&block_call, block("00 00 02 AA 55 FD"), done_with(2), "AA 55");
+    gives(&block_call, block("00 40 02 AA 55 BD"), done_with(2), "AA 55");
+}
+
+static void block_keeps_the_tail(void)
+{
+    gives(&block_call, block("00 00 02 12 34 24"), done_with(2), "12 34 AA AA");
+}
+
+static void block_of_no_bytes(void)
+{
+    gives(&block_call, block("00 00 00 00"), done_with(0), "");
+    gives(&block_call, block("00 00 00 00"), done_with(0), "AA AA AA");
+}
+
+static void block_len_FF_is_12(void)
+{
+    refuses(&block_call, block("00 00 FF 00"), refused(12), 64);
+    refuses(&block_call, block("21 80 FF 00 00 00 07"), refused(12), 0);
+}
+
+static void block_len_65_into_64_is_16(void)
+{
+    question q = block("00 00 41");
+    memset(q.input.at + 3, 0, 65);
+    q.input.at[68] = 0x41;
+    q.input.length = 69;
+    refuses(&block_call, q, refused(16), 64);
+}
+
+static void block_numbers_in_order(void)
+{
+    refuses(&block_call, block("01 01 FF"), refused(11), 0);
+    refuses(&block_call, block("01 01 02 00"), refused(13), 0);
+    refuses(&block_call, block("01 01 00 01"), refused(14), 0);
+    refuses(&block_call, block("01 00 01 00 00"), refused(15), 0);
+    refuses(&block_call, block("00 00 01 00 01"), refused(16), 0);
+}
+
+static void block_r_and_s_are_15(void)
+{
+    refuses(&block_call, block("00 80 00 80"), refused(15), 4);
+    refuses(&block_call, block("00 C0 00 C0"), refused(15), 4);
+    refuses(&block_call, block("00 20 00 20"), refused(15), 4);
+}
+
+int main(void)
+{
+    static const named_test tests[] = {
+        {"example_block_AA_55", block_AA_55},
+        {"example_block_keeps_the_tail", block_keeps_the_tail},
+        {"example_block_of_no_bytes", block_of_no_bytes},
+        {"example_block_len_FF_is_12", block_len_FF_is_12},
+        {"example_block_len_65_into_64_is_16", block_len_65_into_64_is_16},
+        {"example_block_numbers_in_order", block_numbers_in_order},
+        {"example_block_r_and_s_are_15", block_r_and_s_are_15},
+    };
+    return run_named_tests(tests, sizeof tests / sizeof tests[0]);
+}

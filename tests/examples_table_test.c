@@ -1,0 +1,98 @@
+/* Worked examples of tables and lengths,
+ * and inputs that tell known wrong programs from right ones. */
+#include "calls_table.h"
+#include "check.h"
+#include "example.h"
+
+static void family_table_3_3(void)
+{
+    question q = house_question(3, 3, 1);
+    gives(&family_table_call, q, done(), "00 01 02  00 02 04  00 03 06");
+    q.packet = 4;
+    gives(&packet_length_call, q, done_with(2), "");
+}
+
+static void family_table_into_a_wrong_buffer(void)
+{
+    refuses(&family_table_call, example(), refused(5), 3);
+}
+
+static void judge_house_table(void)
+{
+    gives(&judge_call, example(), done_with(1), "");
+}
+
+static void judge_says_no_of_decodable_table(void)
+{
+    gives(&judge_call, with_table(2, 2, "00 07 00 07"), done_with(0), "");
+    gives(&judge_call, with_table(2, 2, "00 08 00 08"), done_with(0), "");
+}
+
+static void judge_one_row_or_one_column(void)
+{
+    gives(&judge_call, with_table(3, 1, "05 00 09"), done_with(1), "");
+    gives(&judge_call, with_table(1, 3, "05 00 09"), done_with(1), "");
+}
+
+static void entry_64_taken_65_refused(void)
+{
+    question q = with_table(2, 2, "00 01 00 40");
+    gives(&judge_call, q, done_with(1), "");
+    q.table.at[3] = 65;
+    gives(&judge_call, q, refused(3), "");
+}
+
+static void length_56_taken_57_refused(void)
+{
+    question q = house_question(2, 2, 56);
+    q.packet = 1;
+    gives(&packet_length_call, q, done_with(56), "");
+    q.packet = 3;
+    gives(&packet_length_call, q, done_with(57), "");
+    q.l = 57;
+    gives(&packet_length_call, q, refused(2), "");
+}
+
+static void longest_parity_is_64_bytes(void)
+{
+    question q = house_question(8, 8, 56);
+    q.packet = 9;
+    gives(&packet_length_call, q, done_with(63), "");
+    q.table.at[0] = 64;
+    gives(&packet_length_call, q, done_with(64), "");
+}
+
+static void marks_16_refused_with_6(void)
+{
+    gives(&survivors_length_call, with_marks(example(), 16, ""), refused(6), "");
+}
+
+static void marks_7_refused_with_7(void)
+{
+    gives(&survivors_length_call, with_marks(example(), 7, ""), refused(7), "");
+    gives(&survivors_length_call, with_marks(example(), 0, ""), refused(7), "");
+}
+
+static void marks_are_not_cut_to_16_bits(void)
+{
+    gives(&survivors_length_call, with_marks(example(), 0x1000C, ""), refused(6), "");
+    gives(&survivors_length_call, with_marks(example(), 0xC, ""), done_with(4), "");
+}
+
+int main(void)
+{
+    static const named_test tests[] = {
+        {"example_family_table_3_3", family_table_3_3},
+        {"example_family_table_into_a_wrong_buffer", family_table_into_a_wrong_buffer},
+        {"example_judge_house_table", judge_house_table},
+        {"example_judge_says_no_of_decodable_table", judge_says_no_of_decodable_table},
+        {"example_judge_one_row_or_one_column", judge_one_row_or_one_column},
+        {"example_entry_64_taken_65_refused", entry_64_taken_65_refused},
+        {"example_length_56_taken_57_refused", length_56_taken_57_refused},
+        {"example_longest_parity_is_64_bytes", longest_parity_is_64_bytes},
+        {"example_marks_16_refused_with_6", marks_16_refused_with_6},
+        {"example_marks_7_refused_with_7", marks_7_refused_with_7},
+        {"example_marks_are_not_cut_to_16_bits", marks_are_not_cut_to_16_bits},
+    };
+    return run_named_tests(tests, sizeof tests / sizeof tests[0]);
+}

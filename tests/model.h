@@ -1,0 +1,60 @@
+/* What every call should answer, in plain C and straight from the rules, as slow as it likes.
+ * Nothing of the library is used. Sources, parities and packets are numbered from 1, as in the
+ * rules. A model call writes its output only when it is done. */
+#ifndef MODEL_H
+#define MODEL_H
+
+#include "question.h"
+
+#include <stdbool.h>
+
+enum { SOURCES_MOST = 8, PARITIES_MOST = 8, LENGTH_MOST = 56, SHIFT_MOST = 64 };
+
+typedef answer model_call(const question *q, uint8_t *output);
+
+model_call model_family_table;     /* results: none */
+model_call model_judge;            /* results: growing */
+model_call model_packet_length;    /* results: length */
+model_call model_survivors_length; /* results: length */
+model_call model_encode_all;       /* results: none */
+model_call model_encode_one;       /* results: none */
+model_call model_walk;             /* results: count, whole, progress */
+model_call model_next_step;        /* results: parity, source, progress */
+model_call model_rebuild;          /* results: count */
+model_call model_repair;           /* results: none */
+model_call model_look;             /* results: buffer, start, length */
+model_call model_block;            /* results: length */
+
+/* The shape: the number of the first check among 1 2 3 (or 1 2 3 6 7) that refuses, else 0. */
+uint64_t shape_number(const question *q);
+uint64_t marked_shape_number(const question *q);
+bool bad_size(const question *q);
+bool bad_table(const question *q);
+bool bad_packet(const question *q);
+
+/* From here on the shape is one that was not refused. */
+uint64_t entry(const question *q, uint64_t a, uint64_t b);
+uint64_t largest_entry(const question *q);
+uint64_t source_bits(const question *q);
+uint64_t packet_bytes(const question *q, uint64_t packet);
+uint64_t survivors_bytes(const question *q);
+bool at_hand(const question *q, uint64_t packet);
+bool missing(const question *q, uint64_t b);
+uint64_t packet_place(const question *q, uint64_t packet); /* among the packets at hand */
+
+uint8_t bit_of(const uint8_t *bytes_at, uint64_t p);
+void encode_packet(const question *q, const uint8_t *sources, uint64_t packet, uint8_t *out);
+void encode_survivors(const question *q, const uint8_t *sources, uint8_t *out);
+
+/* A walk: steps made and progress, that of source b at progress[b - 1]. */
+typedef struct {
+    uint64_t count;
+    uint64_t progress[8];
+} walked;
+
+bool bare(const question *q, const uint64_t *progress, uint64_t a, uint64_t b);
+bool whole(const question *q, const walked *walk);
+walked walk_lowest_first(const question *q);
+walked walk_in_random_order(const question *q);
+
+#endif

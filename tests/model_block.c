@@ -1,0 +1,37 @@
+#include "model.h"
+
+#include <string.h>
+
+static uint8_t xor_of_all(const bytes *block)
+{
+    uint8_t sum = 0;
+    for (size_t i = 0; i < block->length; i++) {
+        sum ^= block->at[i];
+    }
+    return sum;
+}
+
+answer model_block(const question *q, uint8_t *output)
+{
+    const uint8_t *block = q->input.at;
+    if (q->input.length < 4) {
+        return refused(11);
+    }
+    if (block[2] == 255) {
+        return refused(12);
+    }
+    if (q->input.length != (size_t)block[2] + 4) {
+        return refused(13);
+    }
+    if (xor_of_all(&q->input) != 0) {
+        return refused(14);
+    }
+    if (block[0] != 0 || (block[1] != 0 && block[1] != 0x40)) {
+        return refused(15);
+    }
+    if (block[2] > q->output.length) {
+        return refused(16);
+    }
+    memcpy(output, block + 3, block[2]);
+    return done_with(block[2]);
+}

@@ -1,0 +1,124 @@
+#include "model.h"
+#include "random.h"
+
+#include <string.h>
+
+static bool unfinished(const question *q, const uint64_t *progress, uint64_t b)
+{
+    return missing(q, b) && progress[b - 1] < source_bits(q);
+}
+
+bool bare(const question *q, const uint64_t *progress, uint64_t a, uint64_t b)
+{
+    if (!at_hand(q, q->k + a) || !unfinished(q, progress, b)) {
+        return false;
+    }
+    for (uint64_t c = 1; c <= q->k; c++) {
+        bool covers = c != b && unfinished(q, progress, c);
+        if (covers && entry(q, a, b) + progress[b - 1] >= entry(q, a, c) + progress[c - 1]) {
+            return false;
+        }
+    }
+    return true;
+}
+
+typedef struct {
+    uint64_t parity, source;
+} pair;
+
+/* Lists all bare pairs, lowest parity first, then lowest source, and gives how many. */
+static uint64_t bare_pairs(const question *q, const uint64_t *progress, pair *pairs)
+{
+    uint64_t found = 0;
+    for (uint64_t a = 1; a <= q->m; a++) {
+        for (uint64_t b = 1; b <= q->k; b++) {
+            if (bare(q, progress, a, b)) {
+                pairs[found].parity = a;
+                pairs[found].source = b;
+                found++;
+            }
+        }
+    }
+    return found;
+}
+
+bool whole(const question *q, const walked *walk)
+{
+    for (uint64_t b = 1; b <= q->k; b++) {
+        if (unfinished(q, walk->progress, b)) {
+            return false;
+        }
+    }
+    return true;
+}
+
+static walked walk_in_order(const question *q, bool random_order)
+{
+    walked walk = {0, {0}};
+    pair pairs[SOURCES_MOST * PARITIES_MOST];
+    uint64_t found = bare_pairs(q, walk.progress, pairs);
+    while (found > 0) {
+        uint64_t chosen = random_order ? random_below(found) : 0;
+        walk.progress[pairs[chosen].source - 1]++;
+        walk.count++;
+        found = bare_pairs(q, walk.progress, pairs);
+    }
+    return walk;
+}
+
+walked walk_lowest_first(const question *q)
+{
+    return walk_in_order(q, false);
+}
+
+walked walk_in_random_order(const question *q)
+{
+    return walk_in_order(q, true);
+}
+
+answer model_walk(const question *q, uint8_t *output)
+{
+    uint64_t number = marked_shape_number(q);
+    (void)output;
+    if (number != 0) {
+        return refused(number);
+    }
+    walked walk = walk_lowest_first(q);
+    answer given = done();
+    given.results[0] = walk.count;
+    given.results[1] = whole(q, &walk) ? 1 : 0;
+    memcpy(&given.results[2], walk.progress, sizeof walk.progress);
+    return given;
+}
+
+static bool bad_progress(const question *q)
+{
+    for (uint64_t b = 1; b <= 8; b++) {
+        bool has_none = b > q->k || at_hand(q, b);
+        if (q->progress[b - 1] > (has_none ? 0 : source_bits(q))) {
+            return true;
+        }
+    }
+    return false;
+}
+
+answer model_next_step(const question *q, uint8_t *output)
+{
+    uint64_t number = marked_shape_number(q);
+    pair pairs[SOURCES_MOST * PARITIES_MOST];
+    (void)output;
+    if (number != 0) {
+        return refused(number);
+    }
+    if (bad_progress(q)) {
+        return refused(17);
+    }
+    answer given = done();
+    memcpy(&given.results[2], q->progress, sizeof q->progress);
+    if (bare_pairs(q, q->progress, pairs) > 0) {
+        given.results[0] = pairs[0].parity;
+        given.results[1] = pairs[0].source;
+        given.results[2 + pairs[0].source - 1]++;
+    }
+    return given;
+}

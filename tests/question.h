@@ -1,0 +1,38 @@
+/* A question is everything that a call can be given; an answer is everything that it gives back
+ * but the bytes of the output. Each call looks only at the parts that it takes. */
+#ifndef QUESTION_H
+#define QUESTION_H
+
+#include <stddef.h>
+#include <stdint.h>
+
+enum { BYTES_MOST = 640, RESULTS_MOST = 10 };
+
+typedef struct {
+    size_t length;
+    uint8_t at[BYTES_MOST];
+} bytes;
+
+typedef struct {
+    uint64_t k, m, l;
+    uint64_t marks;
+    uint64_t packet;
+    uint64_t source;
+    uint64_t progress[8];
+    bytes table;
+    bytes input;   /* the sources, the packets at hand, or the block */
+    bytes rebuilt; /* the rebuilt sources, for the look */
+    bytes output;  /* with its old bytes */
+} question;
+
+typedef struct {
+    uint64_t number;
+    uint64_t results[RESULTS_MOST]; /* as the call's struct has them after the number; rest 0 */
+} answer;
+
+answer numbered(uint64_t number, uint64_t result); /* its first result */
+answer refused(uint64_t number);
+answer done(void);
+answer done_with(uint64_t result);
+
+#endif

@@ -1,0 +1,83 @@
+#include "draw.h"
+
+#include "random.h"
+
+/* The numbers and the lengths of a question, one place each. */
+static uint64_t *number_at(question *q, size_t place)
+{
+    uint64_t *numbers[] = {&q->k, &q->m, &q->l, &q->marks, &q->packet, &q->source};
+    return place < 6 ? numbers[place] : place < 14 ? &q->progress[place - 6] : NULL;
+}
+
+static bytes *buffer_at(question *q, size_t place)
+{
+    bytes *buffers[] = {&q->table, &q->input, &q->rebuilt, &q->output};
+    return place >= 14 && place < 18 ? buffers[place - 14] : NULL;
+}
+
+/* Near what was there, at the limits, and what looks like the old number when bits are cut. */
+static uint64_t telling_number(uint64_t old, size_t value)
+{
+    const uint64_t telling[TELLING_VALUES] = {
+        old + 1,
+        old - 1,
+        0,
+        1,
+        2,
+        3,
+        7,
+        8,
+        9,
+        12,
+        15,
+        16,
+        17,
+        56,
+        57,
+        448,
+        449,
+        old + 256,
+        old + 65536,
+        old + ((uint64_t)1 << 32),
+        old | (uint64_t)1 << 16,
+        old | (uint64_t)1 << 63,
+        65535,
+        (uint64_t)1 << 61,
+        (uint64_t)1 << 63,
+        UINT64_MAX,
+    };
+    return telling[value];
+}
+
+static size_t telling_length(size_t old, size_t value)
+{
+    const size_t telling[] = {old + 1, old > 0 ? old - 1 : 0, 0, 1, old / 2, old + 8, BYTES_MOST};
+    size_t length = telling[value % (sizeof telling / sizeof telling[0])];
+    return length <= BYTES_MOST ? length : BYTES_MOST;
+}
+
+static void spoil_byte(bytes *at, size_t value)
+{
+    static const uint8_t telling[] = {0, 1, 63, 64, 65, 128, 255};
+    if (at->length > 0) {
+        at->at[random_below(at->length)] = telling[value % sizeof telling];
+    }
+}
+
+void spoil_place(question *q, size_t place, size_t value)
+{
+    uint64_t *number = number_at(q, place);
+    bytes *buffer = buffer_at(q, place);
+    if (number != NULL) {
+        *number = telling_number(*number, value);
+    } else if (buffer != NULL) {
+        buffer->length = telling_length(buffer->length, value);
+    } else {
+        spoil_byte(place == 18 ? &q->table : &q->input, value);
+    }
+}
+
+void spoil(question *q)
+{
+    spoil_place(q, (size_t)random_below(SPOILED_PLACES), (size_t)random_below(TELLING_VALUES));
+}

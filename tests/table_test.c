@@ -1,0 +1,177 @@
+/* Family tables, the judge, and the lengths of packets. */
+#include "calls_table.h"
+#include "check.h"
+#include "random.h"
+
+#include <string.h>
+
+static void family_table_of_every_size(void)
+{
+    question q = {0};
+    for (q.k = 0; q.k <= 10; q.k++) {
+        for (q.m = 0; q.m <= 10; q.m++) {
+            for (uint64_t length = 0; length <= 110; length++) {
+                set_bytes(&q.output, length);
+                compare(&family_table_call, &q);
+            }
+        }
+    }
+}
+
+static void family_table_takes_any_numbers(void)
+{
+    compare_any_numbers(&family_table_call, 20);
+}
+
+static void family_table_spoiled(void)
+{
+    compare_spoiled(&family_table_call, 5000);
+}
+
+/* Every m by k table whose entries are below a bound, counted up like the digits of a number. */
+static void judge_every_table(uint64_t k, uint64_t m, uint8_t bound)
+{
+    question q = house_question(k, m, 1);
+    size_t i = 0;
+    memset(q.table.at, 0, q.table.length);
+    while (i < q.table.length) {
+        compare(&judge_call, &q);
+        for (i = 0; i < q.table.length && ++q.table.at[i] == bound; i++) {
+            q.table.at[i] = 0;
+        }
+    }
+}
+
+static void judge_every_small_table(void)
+{
+    judge_every_table(1, 1, 67);
+    judge_every_table(1, 3, 8);
+    judge_every_table(3, 1, 8);
+    judge_every_table(2, 2, 10);
+    judge_every_table(3, 2, 4);
+    judge_every_table(2, 3, 4);
+    judge_every_table(3, 3, 3);
+}
+
+/* One entry of a growing table one up or one down: the edge of "less than". */
+static void judge_house_tables_bent(void)
+{
+    question q = {0};
+    for (q.k = 1; q.k <= 8; q.k++) {
+        for (q.m = 1; q.m <= 8; q.m++) {
+            set_house_table(&q);
+            for (size_t i = 0; i < q.table.length; i++) {
+                compare(&judge_call, &q);
+                q.table.at[i]++;
+                compare(&judge_call, &q);
+                q.table.at[i] = (uint8_t)(q.table.at[i] - 2);
+                compare(&judge_call, &q);
+                q.table.at[i]++;
+            }
+        }
+    }
+}
+
+/* Differences that grow from below 0 to above it. */
+static void judge_falling_rows(void)
+{
+    question q = house_question(2, 2, 1);
+    for (int i = 0; i < 20000; i++) {
+        random_bytes(q.table.at, 4);
+        for (int j = 0; j < 4; j++) {
+            q.table.at[j] = (uint8_t)(q.table.at[j] % 65);
+        }
+        compare(&judge_call, &q);
+    }
+}
+
+static void judge_takes_any_numbers(void)
+{
+    compare_any_numbers(&judge_call, 20);
+}
+
+static void judge_spoiled(void)
+{
+    compare_spoiled(&judge_call, 10000);
+}
+
+/* Every source length and every largest shift, at every packet. */
+static void packet_length_of_every_packet(void)
+{
+    question q = house_question(2, 2, 1);
+    for (q.l = 0; q.l <= 58; q.l++) {
+        for (uint8_t r = 0; r <= 66; r++) {
+            for (q.packet = 0; q.packet <= 6; q.packet++) {
+                memset(q.table.at, 0, 4);
+                q.table.at[random_below(4)] = r;
+                compare(&packet_length_call, &q);
+            }
+        }
+    }
+}
+
+static void packet_length_takes_any_numbers(void)
+{
+    compare_any_numbers(&packet_length_call, 20);
+}
+
+static void packet_length_spoiled(void)
+{
+    compare_spoiled(&packet_length_call, 10000);
+}
+
+static void survivors_length_of_all_marks(void)
+{
+    question q = {0};
+    for (q.k = 1; q.k <= 8; q.k++) {
+        for (q.m = 1; q.m <= 8; q.m++) {
+            for (q.marks = 0; q.marks < (uint64_t)2 << (q.k + q.m); q.marks += 1 + q.marks / 200) {
+                q.l = random_between(1, 56);
+                draw_table(&q);
+                compare(&survivors_length_call, &q);
+            }
+        }
+    }
+}
+
+static void survivors_length_takes_any_numbers(void)
+{
+    compare_any_numbers(&survivors_length_call, 20);
+}
+
+static void survivors_length_spoiled(void)
+{
+    compare_spoiled(&survivors_length_call, 10000);
+}
+
+static void slots_are_set_when_refused(void)
+{
+    const uint8_t table[4] = {0, 1, 0, 2};
+    uint64_t slots[3] = {77, 77, 77};
+    whx_judge(9, 2, table, 4, &slots[0]);
+    whx_packet_length(2, 2, 1, table, 4, 5, &slots[1]);
+    whx_survivors_length(2, 2, 1, table, 4, 7, &slots[2]);
+    expect_zeros(slots, 3);
+}
+
+int main(void)
+{
+    static const named_test tests[] = {
+        {"family_table_of_every_size", family_table_of_every_size},
+        {"family_table_takes_any_numbers", family_table_takes_any_numbers},
+        {"family_table_spoiled", family_table_spoiled},
+        {"judge_every_small_table", judge_every_small_table},
+        {"judge_house_tables_bent", judge_house_tables_bent},
+        {"judge_falling_rows", judge_falling_rows},
+        {"judge_takes_any_numbers", judge_takes_any_numbers},
+        {"judge_spoiled", judge_spoiled},
+        {"packet_length_of_every_packet", packet_length_of_every_packet},
+        {"packet_length_takes_any_numbers", packet_length_takes_any_numbers},
+        {"packet_length_spoiled", packet_length_spoiled},
+        {"survivors_length_of_all_marks", survivors_length_of_all_marks},
+        {"survivors_length_takes_any_numbers", survivors_length_takes_any_numbers},
+        {"survivors_length_spoiled", survivors_length_spoiled},
+        {"table_slots_are_set_when_refused", slots_are_set_when_refused},
+    };
+    return run_named_tests(tests, sizeof tests / sizeof tests[0]);
+}
