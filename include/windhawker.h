@@ -255,6 +255,86 @@ static inline wh_stepped wh_next_step(uint64_t k, uint64_t m, uint64_t l, const 
     return stepped;
 }
 
+/* ---- Rebuild, repair, look ------------------------------------------------------------------- */
+
+typedef struct {
+    uint64_t number;
+    uint64_t count; /* steps made */
+} wh_rebuilt;
+
+typedef struct {
+    uint64_t number;
+    uint64_t buffer; /* 0 none, 1 survivors, 2 rebuilt */
+    uint64_t start;  /* where the source starts in that buffer */
+    uint64_t length; /* its bytes */
+} wh_looked;
+
+uint64_t whx_rebuild(uint64_t k, uint64_t m, uint64_t l, const uint8_t *table, uint64_t table_len,
+                     uint64_t marks, const uint8_t *packets, uint64_t packets_len, uint8_t *out,
+                     uint64_t out_len, uint64_t *count);
+uint64_t whx_repair(uint64_t k, uint64_t m, uint64_t l, const uint8_t *table, uint64_t table_len,
+                    uint64_t marks, const uint8_t *packets, uint64_t packets_len, uint64_t packet,
+                    uint8_t *out, uint64_t out_len);
+uint64_t whx_look(uint64_t k, uint64_t m, uint64_t l, const uint8_t *table, uint64_t table_len,
+                  uint64_t marks, uint64_t source, const uint8_t *survivors, uint64_t survivors_len,
+                  const uint8_t *rebuilt, uint64_t rebuilt_len, uint64_t *buffer, uint64_t *start,
+                  uint64_t *length);
+
+/* Writes all k sources, source 1 first, k * l bytes, from the k packets at hand, and gives the
+ * steps it took. With number 8 the count is the steps made before the stall; with any other
+ * refusal it is 0. Checks 1 2 3 6 7 4 5 8 9 10. */
+static inline wh_rebuilt wh_rebuild(uint64_t k, uint64_t m, uint64_t l, const uint8_t *table,
+                                    size_t table_len, uint64_t marks, const uint8_t *packets,
+                                    size_t packets_len, uint8_t *out, size_t out_len)
+{
+    wh_rebuilt rebuilt;
+    rebuilt.number = whx_rebuild(k, m, l, wh_read_place(table, table_len), table_len, marks,
+                                 wh_read_place(packets, packets_len), packets_len,
+                                 wh_write_place(out, out_len), out_len, &rebuilt.count);
+    return rebuilt;
+}
+
+/* Writes one packet as it is encoded from the rebuilt sources, be it lost or at hand:
+ * wh_packet_length bytes. Checks 1 2 3 6 7 4 5 8 9 10. */
+static inline uint64_t wh_repair(uint64_t k, uint64_t m, uint64_t l, const uint8_t *table,
+                                 size_t table_len, uint64_t marks, const uint8_t *packets,
+                                 size_t packets_len, uint64_t packet, uint8_t *out, size_t out_len)
+{
+    return whx_repair(k, m, l, wh_read_place(table, table_len), table_len, marks,
+                      wh_read_place(packets, packets_len), packets_len, packet,
+                      wh_write_place(out, out_len), out_len);
+}
+
+/* Finds one source for reading, without a copy: in the survivors' buffer when its card is there,
+ * else in the buffer of rebuilt sources. What the buffers hold is not checked. Refused, the part
+ * is empty. Checks 1 2 3 6 7 4. */
+static inline wh_looked wh_look(uint64_t k, uint64_t m, uint64_t l, const uint8_t *table,
+                                size_t table_len, uint64_t marks, uint64_t source,
+                                const uint8_t *survivors, size_t survivors_len,
+                                const uint8_t *rebuilt, size_t rebuilt_len)
+{
+    wh_looked looked;
+    looked.number = whx_look(k, m, l, wh_read_place(table, table_len), table_len, marks, source,
+                             wh_read_place(survivors, survivors_len), survivors_len,
+                             wh_read_place(rebuilt, rebuilt_len), rebuilt_len, &looked.buffer,
+                             &looked.start, &looked.length);
+    return looked;
+}
+
+/* The place that wh_look found, as a pointer into one of the same two buffers; NULL when it was
+ * refused. */
+static inline const uint8_t *wh_look_at(wh_looked looked, const uint8_t *survivors,
+                                        const uint8_t *rebuilt)
+{
+    if (looked.buffer == 1) {
+        return survivors + (size_t)looked.start;
+    }
+    if (looked.buffer == 2) {
+        return rebuilt + (size_t)looked.start;
+    }
+    return NULL;
+}
+
 /* ---- Block ----------------------------------------------------------------------------------- */
 
 typedef struct {

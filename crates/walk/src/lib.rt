@@ -37,9 +37,9 @@ struct Low {
 }
 
 // A pair of a parity and a source, from 0; the parity is m where none is bare.
-struct Pair {
-    parity: usize,
-    source: usize,
+pub struct Pair {
+    pub parity: usize,
+    pub source: usize,
 }
 
 // The lower of x and a bit of source b at a place; above k where they share it.
@@ -112,7 +112,7 @@ fn scanned(s: Shape, shifts: &[u8; Table::CELLS], g: &[u64; Table::SOURCES], a: 
 }
 
 // The bare pair with the lowest parity.
-fn next_pair(s: Shape, shifts: &[u8; Table::CELLS], g: &[u64; Table::SOURCES]) -> Pair
+pub fn next_pair(s: Shape, shifts: &[u8; Table::CELLS], g: &[u64; Table::SOURCES]) -> Pair
     requires { ⌜ Within s (now shifts) × Fits (deskOf s (now shifts)) (at (now g)) ⌝ }
     ensures { λ r. ⌜ (r .parity ≡ parityOf (deskOf s (now (shifts .entry))) (at (now (g .entry)))) × (r .parity < s .m → r .source ≡ sourceOf (deskOf s (now (shifts .entry))) (at (now (g .entry))) (r .parity)) ⌝ }
 {
@@ -204,7 +204,7 @@ pub fn next_step(
 }
 
 // Whether every missing source is whole: no shift matters.
-fn is_whole(s: Shape, g: &[u64; Table::SOURCES]) -> bool
+pub fn is_whole(s: Shape, g: &[u64; Table::SOURCES]) -> bool
     requires { ⌜ (s .k ≤ maxK) × (s .length ≤ maxLength) ⌝ }
     ensures { λ r. ⌜ r ≡ wholeB (deskOf s []) (at (now (g .entry))) ⌝ }
 {

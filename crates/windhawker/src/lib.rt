@@ -3,6 +3,8 @@ use table::Table;
 ghost use Rattle.table.specs.Promise.{FamilyWritten, Judged};
 ghost use Rattle.encode.specs.Promise.{EncodedAll, EncodedOne, PacketMeasured, SurvivorsMeasured};
 ghost use Rattle.walk.specs.Promise.{Walked, Stepped};
+ghost use Rattle.rebuild.specs.Promise.{Rebuilt, Repaired};
+ghost use Rattle.look.specs.Promise.{LookedAt};
 ghost use Rattle.card.specs.Promise.{BlockTaken};
 
 // The house table of k sources and m parities.
@@ -142,4 +144,64 @@ pub extern "C" fn whx_block(block: &[u8], dest: &mut [u8], length: &mut u64) -> 
     let t = card::block(block, dest);
     *length = t.length;
     t.number
+}
+
+// All sources from the packets at hand.
+#[no_mangle]
+pub extern "C" fn whx_rebuild(
+    k: u64,
+    m: u64,
+    l: u64,
+    table: &[u8],
+    marks: u64,
+    packets: &[u8],
+    out: &mut [u8],
+    count: &mut u64,
+) -> u64
+    ensures { λ r. ⌜ Rebuilt k m l (now (table .entry)) marks (now (packets .entry)) (now (out .entry)) r (now (count .exit)) (now (out .exit)) ⌝ }
+{
+    let a = rebuild::rebuild(k, m, l, table, marks, packets, out);
+    *count = a.count;
+    a.number
+}
+
+// One packet from the packets at hand.
+#[no_mangle]
+pub extern "C" fn whx_repair(
+    k: u64,
+    m: u64,
+    l: u64,
+    table: &[u8],
+    marks: u64,
+    packets: &[u8],
+    packet: u64,
+    out: &mut [u8],
+) -> u64
+    ensures { λ r. ⌜ Repaired k m l (now (table .entry)) marks (now (packets .entry)) packet (now (out .entry)) r (now (out .exit)) ⌝ }
+{
+    rebuild::repair::repair(k, m, l, table, marks, packets, packet, out)
+}
+
+// Where one source stands for reading.
+#[no_mangle]
+pub extern "C" fn whx_look(
+    k: u64,
+    m: u64,
+    l: u64,
+    table: &[u8],
+    marks: u64,
+    which: u64,
+    survivors: &[u8],
+    rebuilt: &[u8],
+    buffer: &mut u64,
+    start: &mut u64,
+    length: &mut u64,
+) -> u64
+    ensures { λ r. ⌜ LookedAt k m l (now (table .entry)) marks which (now (survivors .entry)) (now (rebuilt .entry)) r (now (buffer .exit)) (now (start .exit)) (now (length .exit)) ⌝ }
+{
+    let a = look::look_at(k, m, l, table, marks, which, survivors, rebuilt);
+    *buffer = a.buffer;
+    *start = a.start;
+    *length = a.length;
+    a.number
 }

@@ -1,0 +1,13 @@
+pub mod CellLaws
+pub mod AtHand
+pub mod SourceLaws
+pub mod Bounds
+pub mod Survivors
+pub mod Rows
+pub mod Steps
+pub mod EndLaws
+pub mod StrayLaws
+pub mod AnswerLaws
+pub mod StageLaws
+pub mod OneAnswer
+pub mod NoneMissing

@@ -1,0 +1,127 @@
+-- After each turn some order of so many steps leads to g, and what it read stands in the sources and is taken out of the rows. Assumes nothing.
+use Prim.Native.Nat.{ℕ, _+_, _*_, _-_, _≤_, _<_}
+use mathlib.Core.Path.{_≡_}
+use native.Mathlib.Omega.{arith}
+use lib.ListN.{set}
+use Rattle.bits.specs.Sums.{at}
+use Rattle.table.specs.Limits.{maxK, maxLength}
+use Rattle.table.specs.Desk.{sourceBits}
+use Rattle.table.specs.Table.{deskOf}
+use Rattle.walk.specs.Walk.{Bare}
+use Rattle.walk.specs.Compute.{fullB, wholeB}
+use Rattle.walk.proofs.Totals.{all, all-most}
+use Rattle.walk.proofs.Computed.{no-pair}
+use Rattle.rebuild.proofs.Bounds.{within-bounds}
+use Rattle.rebuild.proofs.Steps.{Stepping, stepping-none, stepping-fits, stepping-short, stepping-blank, stepping-more, stepping-end, found-bare, tells-whole}
+use Rattle.rebuild.proofs.decode.decode.Statement.{statement}
+use Rattle.rebuild.proofs.decode.decode.Tie as tie
+
+abbrev Inv-loop : tie.InvT-loop
+Inv-loop s shifts sources₀ rests₀ g₀ count₀ sources rests g count = Stepping (deskOf s shifts) sources₀ rests₀ g count sources rests
+
+abbrev μ-loop : tie.MeasureT-loop
+μ-loop s shifts sources₀ rests₀ g₀ count₀ sources rests g count = all (deskOf s shifts) - count
+
+-- in a turn the pair is bare
+is-bare : (c : tie.Else1 Inv-loop μ-loop) → let l = c .before .before .before .before in let s = l .before .args in Bare (deskOf (s .s) (s .shifts .now)) (at (l .loop .g)) (c .before .before .next-pair .result .parity) (c .before .before .next-pair .result .source)
+is-bare c =
+    let n = c .before .before .next-pair in
+    let l = c .before .before .before .before in
+    let s = l .before .args in
+    found-bare (deskOf (s .s) (s .shifts .now)) (at (l .loop .g)) (n .result .parity) (n .result .source) (c .if1 .left) (n .ensures .0) (n .ensures .1 (c .if1 .left))
+
+in-eight : (c : tie.Else1 Inv-loop μ-loop) → c .before .before .next-pair .result .source < maxK
+in-eight c = omega (arith, is-bare c .free .0 .0, c .before .before .before .before .before .pre .0 .k-high)
+
+next-step : (c : tie.After-take-bit Inv-loop μ-loop)
+    → let l = c .before .before .before .before .before .before .before in
+    let s = l .before .args in
+    let b = c .before .before .before .before .before .next-pair .result .source in
+    Stepping (deskOf (s .s) (s .shifts .now)) (s .sources .now) (s .rests .now) (set (l .loop .g) b (at (l .loop .g) b + 1)) (l .loop .count + 1) (c .take-bit .last .1 .1 .1 .1 .1 .0) (c .take-bit .last .1 .1 .1 .1 .1 .1 .0)
+next-step c =
+    let e = c .before .before .before in
+    let l = e .before .before .before .before in
+    let s = l .before in
+    stepping-more (deskOf (s .args .s) (s .args .shifts .now)) (s .args .sources .now) (s .args .rests .now) (l .loop .inv) (within-bounds (s .args .s) (s .args .shifts .now) (s .pre .0)) _ _ _ _ (is-bare e) (c .take-bit .ensures)
+
+loop-holds : tie.Need-loop-holds Inv-loop μ-loop
+loop-holds c = stepping-none (deskOf (c .args .s) (c .args .shifts .now)) (c .args .sources .now) (c .args .rests .now) (c .pre .2)
+
+next-pair-requires : tie.Need-next-pair-requires Inv-loop μ-loop
+next-pair-requires c κs =
+    let s = c .before .before in
+    (s .pre .0, stepping-fits (deskOf (s .args .s) (s .args .shifts .now)) (s .args .sources .now) (s .args .rests .now) (c .before .loop .inv))
+
+is-whole-requires : tie.Need-is-whole-requires Inv-loop μ-loop
+is-whole-requires c κs =
+    let s = c .before .before .before .before .before .before in
+    (s .pre .0 .k-high, s .pre .0 .l-high)
+
+returns : tie.Need-returns Inv-loop μ-loop
+unfolding wholeB fullB
+returns c =
+    let n = c .before .before .before .before in
+    let l = n .before .before in
+    let s = l .before in
+    let D = deskOf (s .args .s) (s .args .shifts .now) in
+    stepping-end D (s .args .sources .now) (s .args .rests .now) (l .loop .inv) (c .is-whole .result) (no-pair D (at (l .loop .g)) (omega (arith, n .next-pair .ensures .0, c .before .before .if1 .taken)))
+    (tells-whole D (at (l .loop .g)) (c .is-whole .result) (stepping-fits D (s .args .sources .now) (s .args .rests .now) (l .loop .inv)) (c .is-whole .ensures))
+
+mul-here : tie.Need-mul-here Inv-loop μ-loop
+mul-here c = omega (arith, in-eight c)
+
+array-read-here : tie.Need-array-read-here Inv-loop μ-loop
+array-read-here c = in-eight c
+
+take-bit-requires : tie.Need-take-bit-requires Inv-loop μ-loop
+take-bit-requires c κs =
+    let e = c .before .before in
+    let l = e .before .before .before .before in
+    let s = l .before in
+    let B = is-bare e in
+    (s .pre .0, s .pre .1, e .if1 .left, B .free .0 .0, B .free .1, stepping-blank (deskOf (s .args .s) (s .args .shifts .now)) (s .args .sources .now) (s .args .rests .now) (l .loop .inv) _ _ B)
+
+add-g : tie.Need-add-g Inv-loop μ-loop
+add-g c =
+    let e = c .before .before .before in
+    omega (arith, is-bare e .free .1, e .before .before .before .before .before .pre .0 .l-high)
+
+mul-g : tie.Need-mul-g Inv-loop μ-loop
+mul-g c = omega (arith, in-eight (c .before .before .before))
+
+array-write-g : tie.Need-array-write-g Inv-loop μ-loop
+array-write-g c = in-eight (c .before .before .before)
+
+add-count : tie.Need-add-count Inv-loop μ-loop
+add-count c =
+    let s = c .before .before .before .before .before .before .before .before in
+    let D = deskOf (s .args .s) (s .args .shifts .now) in
+    omega (arith, all-most D (sourceBits maxLength) maxK (omega (arith, s .pre .0 .l-high)) (s .pre .0 .k-high), stepping-short D (s .args .sources .now) (s .args .rests .now) (next-step c))
+
+loop-less : tie.Need-loop-less Inv-loop μ-loop
+loop-less c =
+    let s = c .before .before .before .before .before .before .before .before in
+    omega (arith, stepping-short (deskOf (s .args .s) (s .args .shifts .now)) (s .args .sources .now) (s .args .rests .now) (next-step c))
+
+loop-again : tie.Need-loop-again Inv-loop μ-loop
+loop-again c = next-step c
+
+pub decode-spec : {M : Type 1} → statement M
+decode-spec =
+    tie.close
+    (tie.spec
+    Inv-loop
+    μ-loop
+    loop-holds
+    next-pair-requires
+    is-whole-requires
+    returns
+    mul-here
+    array-read-here
+    take-bit-requires
+    add-g
+    mul-g
+    array-write-g
+    add-count
+    loop-less
+    loop-again)

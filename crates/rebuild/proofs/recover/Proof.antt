@@ -1,0 +1,56 @@
+-- The end of the steps decides 8, a one above a last bit 9, and what is left 10. Assumes nothing.
+use borrow.Author.Needs.{needs}
+use borrow.Author.Tests.{not-true, not-false}
+use Rattle.table.specs.Table.{deskOf}
+use Rattle.rebuild.proofs.AnswerLaws.{recovered-stalled, recovered-stray, recovered-foreign, recovered-done}
+use Rattle.rebuild.proofs.recover.Statement.{statement}
+use Rattle.rebuild.proofs.recover.Tie as tie
+
+read-back-requires : tie.Need-read-back-requires
+read-back-requires c κs = search needs
+
+returns : tie.Need-returns
+returns c =
+    let d = c .before .before .read-back in
+    let s = c .before .before .before .before .before in
+    (recovered-stalled (deskOf (s .args .s) (s .args .shifts .now)) (s .args .packets .now) (d .result .count) (d .result .whole) (d .result .consistent) _ (d .ensures .0) _ (not-true _ (c .if1 .taken)), d .ensures .1)
+
+stray-requires : tie.Need-stray-requires
+stray-requires c κs = search needs
+
+refused-requires : tie.Need-refused-requires
+refused-requires c κs = search needs
+
+returns-2 : tie.Need-returns-2
+returns-2 c =
+    let d = c .before .before .before .before .before .read-back in
+    let s = c .before .before .before .before .before .before .before .before in
+    (recovered-stray (deskOf (s .args .s) (s .args .shifts .now)) (s .args .packets .now) (d .result .count) (d .result .whole) (d .result .consistent) _ (d .ensures .0) _ _ _ (c .refused .ensures .0) (c .refused .ensures .1) (not-false _ (c .before .before .before .if1 .left)) (c .before .before .stray .ensures .so (c .before .if2 .taken)), d .ensures .1)
+
+refused-requires-2 : tie.Need-refused-requires-2
+refused-requires-2 c κs = search needs
+
+returns-3 : tie.Need-returns-3
+returns-3 c =
+    let d = c .before .before .before .before .before .before .before .read-back in
+    let s = c .before .before .before .before .before .before .before .before .before .before in
+    (recovered-foreign (deskOf (s .args .s) (s .args .shifts .now)) (s .args .packets .now) (d .result .count) (d .result .whole) (d .result .consistent) _ (d .ensures .0) _ _ _ (c .refused2 .ensures .0) (c .refused2 .ensures .1) (not-false _ (c .before .before .before .before .before .if1 .left)) (c .before .before .before .before .stray .ensures .not-so (c .before .before .before .if2 .left)) (not-true _ (c .before .if3 .taken)), d .ensures .1)
+
+returns-4 : tie.Need-returns-4
+returns-4 c =
+    let d = c .before .before .before .before .before .before .read-back in
+    let s = c .before .before .before .before .before .before .before .before .before in
+    (recovered-done (deskOf (s .args .s) (s .args .shifts .now)) (s .args .packets .now) (d .result .count) (d .result .whole) (d .result .consistent) _ (d .ensures .0) (not-false _ (c .before .before .before .before .if1 .left)) (c .before .before .before .stray .ensures .not-so (c .before .before .if2 .left)) (not-false _ (c .if3 .left)), d .ensures .1)
+
+pub recover-spec : {M : Type 1} → statement M
+recover-spec =
+    tie.close
+    (tie.spec
+    read-back-requires
+    returns
+    stray-requires
+    refused-requires
+    returns-2
+    refused-requires-2
+    returns-3
+    returns-4)

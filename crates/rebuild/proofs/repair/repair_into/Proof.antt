@@ -1,0 +1,57 @@
+-- The sources are read back into a room of their own, and the packet encoded from them only with number 0. Assumes nothing.
+use borrow.Author.Needs.{needs}
+use Prim.Native.Nat.{_*_}
+use mathlib.Core.Path.{_≡_, refl}
+use native.Mathlib.Omega.{arith}
+use lib.ListN.{take}
+use Rattle.bits.proofs.BitLaws.{zero-bits}
+use Rattle.table.specs.Limits.{maxK, maxLength}
+use Rattle.table.specs.Table.{deskOf}
+use Rattle.table.proofs.CheckLaws.{zero-checked}
+use Rattle.rebuild.specs.Promise.{decodeChecks}
+use Rattle.rebuild.proofs.Bounds.{within-bounds, sources-fit}
+use Rattle.rebuild.proofs.repair.repair_into.Statement.{statement}
+use Rattle.rebuild.proofs.repair.repair_into.Tie as tie
+
+recover-requires : tie.Need-recover-requires
+recover-requires c κs =
+    let s = c .before .before .before in
+    (s .pre .0, s .pre .1, s .pre .2, zero-bits (maxK * maxLength))
+
+returns : tie.Need-returns
+returns c =
+    let r = c .before .before .recover in
+    record { numbered = r .ensures .0 .numbered; refused = λ _. refl; done = λ z. absurd (c .if1 .taken z) }
+
+slice-aggregate-encode-first : tie.Need-slice-aggregate-encode-first
+slice-aggregate-encode-first c = search needs
+
+encode-first-requires : tie.Need-encode-first-requires
+encode-first-requires c κs =
+    let s = c .before .before .before .before .before .before .before .before in
+    (s .pre .0, s .pre .3, omega (arith, c .before .before .before .before .recover .ensures .1, sources-fit (deskOf (s .args .s) (s .args .shifts .now)) (within-bounds (s .args .s) (s .args .shifts .now) (s .pre .0))), s .pre .4)
+
+same-length : tie.Need-same-length
+same-length c = search needs
+
+returns-2 : tie.Need-returns-2
+returns-2 c =
+    let r = c .before .before .before .before .before .before .before .recover in
+    let e = c .before .before .before .before .before in
+    let s = e .before .before .before .before .before .before .args in
+    record {
+      numbered = zero-checked (decodeChecks (deskOf (s .s) (s .shifts .now)) (s .packets .now)) (r .result .number) (e .if1 .left) (r .ensures .0 .numbered);
+      refused = λ n. absurd (n refl);
+      done = λ _. (take (s .s .k * s .s .length) (r .last .1 .1 .1 .0), r .ensures .0 .done (e .if1 .left), c .before .before .encode-first .ensures);
+    }
+
+pub repair-into-spec : {M : Type 1} → statement M
+repair-into-spec =
+    tie.close
+    (tie.spec
+    recover-requires
+    returns
+    slice-aggregate-encode-first
+    encode-first-requires
+    same-length
+    returns-2)

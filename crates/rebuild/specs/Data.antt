@@ -1,0 +1,74 @@
+-- The data of a decoding: the sources known so far, and what is left of each parity at hand, as bits in lists of bytes.
+use mathlib.Core.Path.{_≡_}
+use mathlib.Core.Bool.{Bool, true, false, cond}
+use mathlib.Core.List.{List}
+use Prim.Native.Nat.{ℕ, _+_, _*_, _%_, _≤_, _<_}
+use lib.Dec.{ltb}
+use lib.ListN.{take}
+use Rattle.bits.specs.Sums.{oneAt}
+use Rattle.bits.specs.Bits.{bitAt, Tells}
+use Rattle.table.specs.Limits.{longest}
+use Rattle.table.specs.Desk.{Desk}
+use Rattle.encode.specs.Code.{Bits, sumOf, sourcesOf}
+use Rattle.walk.specs.Walk.{Gone, Whole}
+use Rattle.walk.specs.Read.{put, readBy}
+use Rattle.rebuild.specs.Promise.{Ended, came, EncodesTo}
+
+-- the bits that a row of the remainders has room for: as many as the longest parity
+abbrev pub rowBits : ℕ
+rowBits = 8 * longest
+
+-- bit q of row a of the remainders
+unfoldable pub rowOf : List ℕ → Bits
+rowOf rests a q = bitAt rests (a * rowBits + q)
+
+module _ (D : Desk) where
+  open Desk D using (k, bytes, shift, present)
+
+  -- bit p of source c of the packets, 0 past the sources; bit q of parity a
+  unfoldable pub cameSource : List ℕ → Bits
+  cameSource packets c p = cond (ltb c k) (bitAt (came D packets c) p) 0
+
+  unfoldable pub cameParity : List ℕ → Bits
+  cameParity packets a q = bitAt (came D packets (k + a)) q
+
+  -- the bits x, a packet's, were added at packet i's place: of the sources, or of the remainders
+  pub record Put (i : ℕ) (x : ℕ → ℕ) (sources rests sources′ rests′ : List ℕ) : Type 0 where
+    pub source : (c p : ℕ) → p < 8 * bytes → sourcesOf D sources′ c p ≡ (sourcesOf D sources c p + oneAt i c * cond (ltb c k) (x p) 0) % 2
+    pub row : (a q : ℕ) → q < rowBits → rowOf rests′ a q ≡ (rowOf rests a q + oneAt i (k + a) * x q) % 2
+
+  -- each packet at hand stands in its place, and nothing else
+  pub record Placed (packets sources rests : List ℕ) : Type 0 where
+    pub source : (c p : ℕ) → p < 8 * bytes → sourcesOf D sources c p ≡ cond (present c) (cameSource packets c p) 0
+    pub row : (a q : ℕ) → q < rowBits → rowOf rests a q ≡ cond (present (k + a)) (cameParity packets a q) 0
+
+  -- the bits h were added to the row of each parity at hand
+  abbrev pub RowsAdded : Bits → List ℕ → List ℕ → Type 0
+  RowsAdded h rests rests′ = (a q : ℕ) → q < rowBits → rowOf rests′ a q ≡ (rowOf rests a q + cond (present (k + a)) (h a q) 0) % 2
+
+  -- the bit in row a where bit g of source b stands became that bit, and was taken out of the row of each parity at hand, at that parity's own shift
+  pub record Took (a b g : ℕ) (sources rests sources′ rests′ : List ℕ) : Type 0 where
+    pub source : sourcesOf D sources′ ≡ put (sourcesOf D sources) b g (rowOf rests a (shift a b + g))
+    pub rows : RowsAdded (λ a′ q. rowOf rests a (shift a b + g) * oneAt (shift a′ b + g) q) rests rests′
+
+  -- what is left of the parities r when the sources s are taken out
+  abbrev pub left : Bits → Bits → Bits
+  left r s a q = (r a q + sumOf D s a q) % 2
+
+  -- the remainders: of each parity at hand what is left of it, else noughts
+  abbrev pub Rests : Bits → Bits → List ℕ → Type 0
+  Rests r s rests = (a q : ℕ) → q < rowBits → rowOf rests a q ≡ cond (present (k + a)) (left r s a q) 0
+
+  -- steps were made until none was left; whatever parities the remainders stood for, the sources hold what was read from them, and the remainders still stand for them
+  pub record Decoded (count : ℕ) (whole : Bool) (sources rests sources′ rests′ : List ℕ) : Type 0 where
+    pub ended : Ended D count
+    pub full : Tells whole (Whole D (ended .end))
+    pub goes : (r : Bits) → Rests r (sourcesOf D sources) rests → (sourcesOf D sources′ ≡ readBy D r (ended .run) (sourcesOf D sources)) × Rests r (sourcesOf D sources′) rests′
+
+  -- the data half of rebuild: the steps made; whether they finish all missing sources; and then whether any sources encode to the packets, which are these
+  pub record ReadBack (packets : List ℕ) (count : ℕ) (whole consistent : Bool) (sources : List ℕ) : Type 0 where
+    pub ended : Ended D count
+    pub full : Tells whole (Whole D (ended .end))
+    pub kept : (c p : ℕ) → c < k → present c ≡ true → sourcesOf D sources c p ≡ bitAt (came D packets c) p
+    pub some : whole ≡ true → Tells consistent ((x : List ℕ) × EncodesTo D packets x)
+    pub these : whole ≡ true → (x : List ℕ) → EncodesTo D packets x → x ≡ take (k * bytes) sources
