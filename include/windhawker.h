@@ -5,7 +5,8 @@
  *   The logbook is cut into k sources of l bytes each. From them the code makes m parities.
  *   Each card carries one packet: packets 1 to k are the sources themselves, packets k + 1 to
  *   k + m are the parities 1 to m. Any k of the n = k + m packets are meant to give the sources
- *   back. k and m are 1 to 8, l is 1 to 56.
+ *   back. k and m are 1 to 8, l is 1 to 56. windhawker_limits.h has the limits as macros, for the
+ *   sizes of arrays; WH_LONGEST is the bytes of the longest packet that there can be.
  *
  * THE SHIFT TABLE
  *   m rows of k entries, row by row, one byte each, 0 to 64. Entry (a, b) says how many bits
@@ -213,23 +214,23 @@ static inline uint64_t wh_encode_one(uint64_t k, uint64_t m, uint64_t l, const u
 
 typedef struct {
     uint64_t number;
-    uint64_t count;       /* steps made */
-    uint64_t whole;       /* 1 when every missing source is finished, else 0 */
-    uint64_t progress[8]; /* where the walk ends */
+    uint64_t count;              /* steps made */
+    uint64_t whole;              /* 1 when every missing source is finished, else 0 */
+    uint64_t progress[WH_MAX_K]; /* where the walk ends */
 } wh_walked;
 
 typedef struct {
     uint64_t number;
-    uint64_t parity;      /* 1 to m, or 0 when no pair is bare */
-    uint64_t source;      /* 1 to k, or 0 when no pair is bare */
-    uint64_t progress[8]; /* after the step */
+    uint64_t parity;             /* 1 to m, or 0 when no pair is bare */
+    uint64_t source;             /* 1 to k, or 0 when no pair is bare */
+    uint64_t progress[WH_MAX_K]; /* after the step */
 } wh_stepped;
 
 uint64_t whx_walk(uint64_t k, uint64_t m, uint64_t l, const uint8_t *table, uint64_t table_len,
-                  uint64_t marks, uint64_t *count, uint64_t *whole, uint64_t progress[8]);
+                  uint64_t marks, uint64_t *count, uint64_t *whole, uint64_t progress[WH_MAX_K]);
 uint64_t whx_next_step(uint64_t k, uint64_t m, uint64_t l, const uint8_t *table, uint64_t table_len,
-                       uint64_t marks, const uint64_t progress[8], uint64_t *parity,
-                       uint64_t *source, uint64_t after[8]);
+                       uint64_t marks, const uint64_t progress[WH_MAX_K], uint64_t *parity,
+                       uint64_t *source, uint64_t after[WH_MAX_K]);
 
 /* Walks the decoding without data, from progress 0 until nothing is bare. A stall is no refusal
  * here: the number is 0 and whole is 0. Every order of steps ends at the same progress after the
@@ -247,7 +248,8 @@ static inline wh_walked wh_walk(uint64_t k, uint64_t m, uint64_t l, const uint8_
  * after it. With nothing bare the pair is (0, 0) and the progress is the same; refused, the pair
  * is (0, 0) and the progress all zeros. Checks 1 2 3 6 7 17. */
 static inline wh_stepped wh_next_step(uint64_t k, uint64_t m, uint64_t l, const uint8_t *table,
-                                      size_t table_len, uint64_t marks, const uint64_t progress[8])
+                                      size_t table_len, uint64_t marks,
+                                      const uint64_t progress[WH_MAX_K])
 {
     wh_stepped stepped;
     stepped.number = whx_next_step(k, m, l, wh_read_place(table, table_len), table_len, marks,

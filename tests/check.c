@@ -45,7 +45,7 @@ static void catch_signals(void)
 static bool passes(const named_test *test)
 {
     running = test->name;
-    random_restart();
+    random_restart(0);
     if (sigsetjmp(next_test, 1) != 0) {
         return false;
     }

@@ -2,9 +2,9 @@
 
 static uint64_t state;
 
-void random_restart(void)
+void random_restart(uint64_t row)
 {
-    state = 0x9E3779B97F4A7C15u;
+    state = (0x9E3779B97F4A7C15u ^ row * 0xD1B54A32D192ED03u) | 1;
 }
 
 /* xorshift64 with a multiplication at the end, so that low bits are as good as high ones. */

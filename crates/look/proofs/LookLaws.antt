@@ -1,8 +1,8 @@
 -- Laws of a look: its checks, the places of sources, and the whole call from what is left of it. Assumes nothing.
 use mathlib.Core.Path.{_≡_, refl, sym, ap, _∙_, subst}
-use mathlib.Core.Logic.{_⊎_, inl, inr}
-use mathlib.Core.Bool.{Bool, true, false, cond}
-use mathlib.Core.List.{List, _++_}
+use mathlib.Core.Logic.{inl, inr}
+use mathlib.Core.Bool.{Bool, true, cond}
+use mathlib.Core.List.{List}
 use Prim.Native.Nat.{ℕ, _+_, _-_, _*_, _/_, _%_, _^_, _≤_, _<_}
 use native.Mathlib.Omega.{arith}
 use native.Mathlib.Nat.{mul-comm, mod-lt}
@@ -13,13 +13,13 @@ use lib.Count.{ones, ones-le}
 use lib.Dec.{eqb}
 use lib.ListN as lists
 use lib.Pow.{pow-pos}
-use Rattle.bits.specs.Sums.{count, sum}
+use Rattle.bits.specs.Sums.{count}
 use Rattle.bits.specs.Bits.{bit}
 use Rattle.bits.proofs.SumLaws.{sum-same, sum-grows, sum-each}
 use Rattle.bits.proofs.BitLaws.{bit-mod}
 use Rattle.table.specs.Desk.{Desk, desk, mark, packetBytes, placeOf}
 use Rattle.table.specs.Table.{Opens, deskOf}
-use Rattle.table.specs.Checks.{Checks, Checked, shapeChecks, numberChecks, marksChecks, inputChecks}
+use Rattle.table.specs.Checks.{Checked, shapeChecks, numberChecks, marksChecks, inputChecks}
 use Rattle.table.specs.declared.Opened.{Opened}
 use Rattle.table.proofs.CheckLaws.{passed, neither, inside, one-of, exact, zero-checked}
 use Rattle.table.proofs.MarkLaws.{ones-are-marks, none-left}

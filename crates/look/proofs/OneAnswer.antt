@@ -1,14 +1,13 @@
 -- A look has one answer: one number, one place, and one part of the lent buffers. Assumes nothing.
-use mathlib.Core.Path.{_≡_, refl, sym, ap, ap₂, _∙_, subst}
-use mathlib.Core.Logic.{_⊎_, inl, inr}
-use mathlib.Core.Bool.{Bool, true, false, true≢false}
+use mathlib.Core.Path.{_≡_, sym, ap₂, _∙_}
+use mathlib.Core.Logic.{inl, inr}
+use mathlib.Core.Bool.{true, false, true≢false}
 use mathlib.Core.List.{List}
-use Prim.Native.Nat.{ℕ, _+_, _-_}
+use Prim.Native.Nat.{ℕ, _-_}
 use native.Mathlib.Decide.{ℕ-discrete}
 use lib.Dec.{eqb}
 use denote.Ref.{RefT, ptr, now}
 use Rattle.bits.specs.Sums.{pick}
-use Rattle.bits.specs.Bits.{slice}
 use Rattle.table.specs.Desk.{Desk, desk}
 use Rattle.table.proofs.CheckLaws.{checked-once}
 use Rattle.look.specs.Promise.{LookedAt, Looked, PartOf, Stands, lookChecks}

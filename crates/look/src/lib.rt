@@ -4,7 +4,7 @@ use table::Shape;
 use table::Table;
 ghost use mathlib.Core.Path.{_≡_};
 ghost use lib.ListN.{length};
-ghost use Prim.Native.Nat.{ℕ, _+_, _*_, _/_, _^_, _≤_, _<_};
+ghost use Prim.Native.Nat.{_+_, _*_, _/_, _^_, _≤_, _<_};
 ghost use Rattle.bits.specs.Sums.{count};
 ghost use Rattle.table.specs.Limits.{maxK, maxM};
 ghost use Rattle.table.specs.Desk.{mark};

@@ -15,6 +15,8 @@ use Rattle.table.proofs.CheckLaws.{goes, exactly-long}
 use Rattle.table.proofs.Taken.{lowB, insideB, sizeB, tableB, shapeB, takenB, size-taken, table-taken, shape-taken, taken-checked, houseB, house-table, stepB, growsB, flagOf, grows-flag}
 use Rattle.encode.specs.Code.{sumOf, sourcesOf, packetOf, packetsOf, paritiesOf}
 use Rattle.encode.specs.Promise.{EncodedAll}
+use Rattle.rebuild.specs.Promise.{Rebuilt}
+use Rattle.promises.proofs.RebuildExamples.{house, seven, eight, stuck, both-parities, one-parity, no-parity, one-above-the-last-bit, no-sources, stall-after-seven, whole-without-growing, stall-at-once}
 use Rattle.card.specs.Promise.{BlockTaken}
 use Rattle.card.proofs.Examples.{four, two-bytes-taken, two-bytes-next-taken, no-bytes-taken}
 use Rattle.walk.specs.Promise.{Walked}
@@ -28,6 +30,7 @@ pub data Example : Type 0 where
   judge : (k m : ℕ) (table : List ℕ) (growing : Bool) → Example
   encode : (k m l : ℕ) (table sources before parities : List ℕ) → Example
   walk : (k m l : ℕ) (table : List ℕ) (marks count whole : ℕ) (progress : List ℕ) → Example
+  rebuild : (k m l : ℕ) (table : List ℕ) (marks : ℕ) (packets before : List ℕ) (number count : ℕ) (after : List ℕ) → Example
   block : (bytes before : List ℕ) (count : ℕ) (after : List ℕ) → Example
 
 -- the answer, with number 0, meets the call's promise
@@ -37,16 +40,18 @@ Met (largest k m table r) = (a : ℕ) → reach (desk k m 0 table 0) a ≡ r
 Met (judge k m table growing) = Judged k m table 0 (flagOf growing)
 Met (encode k m l table sources before parities) = EncodedAll k m l table sources before 0 parities
 Met (walk k m l table marks count whole progress) = Walked k m l table marks 0 count whole progress
+Met (rebuild k m l table marks packets before number count after) = Rebuilt k m l table marks packets before number count after
 Met (block bytes before count after) = BlockTaken bytes before 0 count after
 
--- what is computed of an example
+-- what is computed of an example; of a rebuild and of a block nothing here
 abbrev Computed : Example → Type 0
 Computed (family k m before table) = (sizeB k m ≡ true) × (length before ≡ m * k) × (houseB k m table ≡ true)
 Computed (largest k m table r) = most m (λ c. most k (entry k table c)) ≡ r
 Computed (judge k m table growing) = (sizeB k m ≡ true) × (tableB k m table ≡ true) × (growsB k m table ≡ growing)
 Computed (encode k m l table sources before parities) = (shapeB k m l table ≡ true) × (length sources ≡ k * l) × (length before ≡ placeOf (desk k m l table 0) (leb k) (k + m)) × (parities ≡ paritiesOf (desk k m l table 0) sources)
+Computed (rebuild k m l table marks packets before number count after) = Met (rebuild k m l table marks packets before number count after)
+Computed (block bytes before count after) = Met (block bytes before count after)
 Computed (walk k m l table marks count whole progress) = (takenB k m l table marks ≡ true) × (answerOf (desk k m l table marks) ≡ record { count = count; whole = whole; progress = progress })
-Computed (block bytes before count after) = BlockTaken bytes before 0 count after
 
 -- and that it is enough
 met : (e : Example) → Computed e → Met e
@@ -72,28 +77,17 @@ met (encode k m l table sources before parities) c =
     }
 met (walk k m l table marks count whole progress) c =
     subst (λ (a : Answer). Walked k m l table marks 0 (a .count) (a .whole) (a .progress)) (c .1) (answer-meets k m l table marks (taken-checked k m l table marks (c .0)))
+met (rebuild k m l table marks packets before number count after) c = c
 met (block bytes before count after) c = c
 
 -- ---- the list
 
-abbrev pub house : List ℕ
-house = 0 ∷ 1 ∷ 0 ∷ 2 ∷ []
-
 abbrev pub house3 : List ℕ
 house3 = 0 ∷ 1 ∷ 2 ∷ 0 ∷ 2 ∷ 4 ∷ 0 ∷ 3 ∷ 6 ∷ []
 
-abbrev pub seven : List ℕ
-seven = 0 ∷ 7 ∷ 0 ∷ 7 ∷ []
-
-abbrev pub eight : List ℕ
-eight = 0 ∷ 8 ∷ 0 ∷ 8 ∷ []
-
--- three rows of which no bit is bare
-abbrev pub stuck : List ℕ
-stuck = 0 ∷ 0 ∷ 5 ∷ 0 ∷ 5 ∷ 0 ∷ 5 ∷ 0 ∷ 0 ∷ []
-
-unfoldable pub examples : List Example
-examples =
+-- those whose answers are computed here
+unfoldable pub computedExamples : List Example
+computedExamples =
     family 3 3 (9 ∷ 9 ∷ 9 ∷ 9 ∷ 9 ∷ 9 ∷ 9 ∷ 9 ∷ 9 ∷ []) house3
     ∷ largest 3 3 house3 6
     ∷ encode 2 2 1 house (0x01 ∷ 0x01 ∷ []) (9 ∷ 9 ∷ 9 ∷ 9 ∷ []) (0x03 ∷ 0x00 ∷ 0x05 ∷ 0x00 ∷ [])
@@ -107,10 +101,26 @@ examples =
     ∷ walk 2 2 1 seven 12 7 0 (7 ∷ 0 ∷ 0 ∷ 0 ∷ 0 ∷ 0 ∷ 0 ∷ 0 ∷ [])
     ∷ walk 2 2 1 eight 12 16 1 (8 ∷ 8 ∷ 0 ∷ 0 ∷ 0 ∷ 0 ∷ 0 ∷ 0 ∷ [])
     ∷ walk 3 3 1 stuck 56 0 0 (0 ∷ 0 ∷ 0 ∷ 0 ∷ 0 ∷ 0 ∷ 0 ∷ 0 ∷ [])
+    ∷ []
+
+-- those whose answers are computed where their call's laws stand
+unfoldable pub provedExamples : List Example
+provedExamples =
+    rebuild 2 2 1 house 12 (0x03 ∷ 0x00 ∷ 0x05 ∷ 0x00 ∷ []) (9 ∷ 9 ∷ []) 0 16 (0x01 ∷ 0x01 ∷ [])
+    ∷ rebuild 2 2 1 house 9 (0x01 ∷ 0x05 ∷ 0x00 ∷ []) (9 ∷ 9 ∷ []) 0 8 (0x01 ∷ 0x01 ∷ [])
+    ∷ rebuild 2 2 1 house 3 (0x01 ∷ 0x01 ∷ []) (9 ∷ 9 ∷ []) 0 0 (0x01 ∷ 0x01 ∷ [])
+    ∷ rebuild 2 2 1 house 12 (0x03 ∷ 0x00 ∷ 0x05 ∷ 0x04 ∷ []) (9 ∷ 9 ∷ []) 9 0 (9 ∷ 9 ∷ [])
+    ∷ rebuild 2 2 1 house 12 (0x03 ∷ 0x00 ∷ 0x05 ∷ 0x01 ∷ []) (9 ∷ 9 ∷ []) 10 0 (9 ∷ 9 ∷ [])
+    ∷ rebuild 2 2 1 seven 12 (0x03 ∷ 0x00 ∷ 0x05 ∷ 0x00 ∷ []) (9 ∷ 9 ∷ []) 8 7 (9 ∷ 9 ∷ [])
+    ∷ rebuild 2 2 1 eight 12 (0x01 ∷ 0x01 ∷ 0x01 ∷ 0x01 ∷ []) (9 ∷ 9 ∷ []) 0 16 (0x01 ∷ 0x01 ∷ [])
+    ∷ rebuild 3 3 1 stuck 56 (1 ∷ 2 ∷ 3 ∷ 4 ∷ 5 ∷ 6 ∷ []) (9 ∷ 9 ∷ 9 ∷ []) 8 0 (9 ∷ 9 ∷ 9 ∷ [])
     ∷ block (0x00 ∷ 0x00 ∷ 0x02 ∷ 0xAA ∷ 0x55 ∷ 0xFD ∷ []) four 2 (0xAA ∷ 0x55 ∷ 3 ∷ 4 ∷ [])
     ∷ block (0x00 ∷ 0x40 ∷ 0x02 ∷ 0xAA ∷ 0x55 ∷ 0xBD ∷ []) four 2 (0xAA ∷ 0x55 ∷ 3 ∷ 4 ∷ [])
     ∷ block (0x00 ∷ 0x00 ∷ 0x00 ∷ 0x00 ∷ []) four 0 four
     ∷ []
+
+unfoldable pub examples : List Example
+examples = computedExamples ++ provedExamples
 
 abbrev pub AllMet : List Example → Type 0
 AllMet [] = Unit
@@ -124,9 +134,9 @@ all-met : (es : List Example) → AllComputed es → AllMet es
 all-met [] c = tt
 all-met (e ∷ es) c = (met e (c .0), all-met es (c .1))
 
-pub examples-met : AllMet examples
-unfolding examples takenB shapeB sizeB tableB insideB lowB houseB growsB stepB answerOf walkFrom parityOf sourceOf lowest placedOf lowerOf scan allB oneAt sum fullB wholeB entry most reach packetBits packetBytes placeOf sumOf sourcesOf packetOf packetsOf bit bitAt up fromBits bytesOf joined
-examples-met = all-met examples (
+computed-met : AllMet computedExamples
+unfolding computedExamples takenB shapeB sizeB tableB insideB lowB houseB growsB stepB answerOf walkFrom parityOf sourceOf lowest placedOf lowerOf scan allB oneAt sum fullB wholeB entry most reach packetBits packetBytes placeOf sumOf sourcesOf packetOf packetsOf bit bitAt up fromBits bytesOf joined
+computed-met = all-met computedExamples (
   (refl, refl, refl),
   (
     refl,
@@ -152,16 +162,7 @@ examples-met = all-met examples (
                         (refl, refl),
                         (
                           (refl, refl),
-                          (
-                            two-bytes-taken,
-                            (
-                              two-bytes-next-taken,
-                              (
-                                no-bytes-taken,
-                                tt,
-                              ),
-                            ),
-                          ),
+                          tt,
                         ),
                       ),
                     ),
@@ -175,6 +176,20 @@ examples-met = all-met examples (
     ),
   ),
 )
+
+proved-met : AllMet provedExamples
+unfolding provedExamples
+proved-met =
+    (both-parities, (one-parity, (no-parity, (one-above-the-last-bit, (no-sources, (stall-after-seven, (whole-without-growing, (stall-at-once, (two-bytes-taken, (two-bytes-next-taken, (no-bytes-taken, tt)))))))))))
+
+met-both : (xs ys : List Example) → AllMet xs → AllMet ys → AllMet (xs ++ ys)
+met-both [] ys m n = n
+met-both (x ∷ xs) ys m n = (m .0, met-both xs ys (m .1) n)
+
+-- every answer of the list meets its call's promise
+pub examples-met : AllMet examples
+unfolding examples
+examples-met = met-both computedExamples provedExamples computed-met proved-met
 
 -- example i of the list
 abbrev pub MetAt : List Example → ℕ → Type 0

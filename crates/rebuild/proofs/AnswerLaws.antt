@@ -30,48 +30,62 @@ recovered-refused D packets number count x y n R = record {
   done = λ z. absurd (n z);
 }
 
-module _ (D : Desk) (packets : List ℕ) (count : ℕ) (whole consistent : Bool) (sources : List ℕ) (B : ReadBack D packets count whole consistent sources) where
-  some-order : whole ≡ true → Finishes D count
-  some-order w = ended-finishes D count (B .ended) (B .full .so w)
-
-  -- 8, with the steps made
-  pub recovered-stalled : (x : List ℕ) → whole ≡ false → Recovered D packets 8 count x
-  recovered-stalled x w = record {
-    numbered = inl ((λ n F. B .full .not-so w (finishes-ended D count n (B .ended) F)), refl);
-    stalled = λ _. B .ended;
+module _ (D : Desk) (packets : List ℕ) where
+  -- 8: the steps made
+  pub stalled : (count : ℕ) (x : List ℕ) → Ended D count → ((n : ℕ) → Finishes D n → ⊥) → Recovered D packets 8 count x
+  stalled count x E none = record {
+    numbered = inl (none, refl);
+    stalled = λ _. E;
     uncounted = λ _ n. absurd (n refl);
     finished = λ z. absurd (omega arith);
     done = λ z. absurd (omega arith);
   }
 
-  -- 9
+  module _ (count : ℕ) (F : Finishes D count) where
+    -- 9
+    pub strayed : (number none : ℕ) (x : List ℕ) → number ≡ 9 → none ≡ 0 → Stray D packets → Recovered D packets number none x
+    strayed number none x e f t = record {
+      numbered = inr ((λ n. n count F), inl (t, e));
+      stalled = λ z. absurd (omega arith);
+      uncounted = λ _ _. f;
+      finished = λ z. absurd (omega arith);
+      done = λ z. absurd (omega arith);
+    }
+
+    -- 10
+    pub foreign : (number none : ℕ) (x : List ℕ) → number ≡ 10 → none ≡ 0 → (Stray D packets → ⊥) → ((y : List ℕ) → EncodesTo D packets y → ⊥) → Recovered D packets number none x
+    foreign number none x e f t none-encode = record {
+      numbered = inr ((λ n. n count F), inr (t, inl (none-encode, e)));
+      stalled = λ z. absurd (omega arith);
+      uncounted = λ _ _. f;
+      finished = λ z. absurd (omega arith);
+      done = λ z. absurd (omega arith);
+    }
+
+    -- 0: the steps that finish all missing sources, and the sources
+    pub read-out : (x : List ℕ) → (Stray D packets → ⊥) → EncodesTo D packets x → Recovered D packets 0 count x
+    read-out x t X = record {
+      numbered = inr ((λ n. n count F), inr (t, inr ((λ n. n x X), refl)));
+      stalled = λ z. absurd (omega arith);
+      uncounted = λ n. absurd (n refl);
+      finished = λ _. F;
+      done = λ _. X;
+    }
+
+module _ (D : Desk) (packets : List ℕ) (count : ℕ) (whole consistent : Bool) (sources : List ℕ) (B : ReadBack D packets count whole consistent sources) where
+  some-order : whole ≡ true → Finishes D count
+  some-order w = ended-finishes D count (B .ended) (B .full .so w)
+
+  pub recovered-stalled : (x : List ℕ) → whole ≡ false → Recovered D packets 8 count x
+  recovered-stalled x w = stalled D packets count x (B .ended) (λ n F. B .full .not-so w (finishes-ended D count n (B .ended) F))
+
   pub recovered-stray : (number none : ℕ) (x : List ℕ) → number ≡ 9 → none ≡ 0 → whole ≡ true → Stray D packets → Recovered D packets number none x
-  recovered-stray number none x e f w t = record {
-    numbered = inr ((λ n. n count (some-order w)), inl (t, e));
-    stalled = λ z. absurd (omega arith);
-    uncounted = λ _ _. f;
-    finished = λ z. absurd (omega arith);
-    done = λ z. absurd (omega arith);
-  }
+  recovered-stray number none x e f w t = strayed D packets count (some-order w) number none x e f t
 
-  -- 10
   pub recovered-foreign : (number none : ℕ) (x : List ℕ) → number ≡ 10 → none ≡ 0 → whole ≡ true → (Stray D packets → ⊥) → consistent ≡ false → Recovered D packets number none x
-  recovered-foreign number none x e f w t c = record {
-    numbered = inr ((λ n. n count (some-order w)), inr (t, inl ((λ y Y. B .some w .not-so c (y, Y)), e)));
-    stalled = λ z. absurd (omega arith);
-    uncounted = λ _ _. f;
-    finished = λ z. absurd (omega arith);
-    done = λ z. absurd (omega arith);
-  }
+  recovered-foreign number none x e f w t c = foreign D packets count (some-order w) number none x e f t (λ y Y. B .some w .not-so c (y, Y))
 
-  -- 0, with the steps that finish all missing sources, and the sources
   pub recovered-done : whole ≡ true → (Stray D packets → ⊥) → consistent ≡ true → Recovered D packets 0 count (take (D .k * D .bytes) sources)
   recovered-done w t c =
       let x = B .some w .so c in
-      record {
-        numbered = inr ((λ n. n count (some-order w)), inr (t, inr ((λ n. n (x .0) (x .1)), refl)));
-        stalled = λ z. absurd (omega arith);
-        uncounted = λ n. absurd (n refl);
-        finished = λ _. some-order w;
-        done = λ _. subst (EncodesTo D packets) (B .these w (x .0) (x .1)) (x .1);
-      }
+      read-out D packets count (some-order w) (take (D .k * D .bytes) sources) t (subst (EncodesTo D packets) (B .these w (x .0) (x .1)) (x .1))

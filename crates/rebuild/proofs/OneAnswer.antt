@@ -16,7 +16,7 @@ use Rattle.encode.specs.Code.{Bits, sourcesOf, packetOf}
 use Rattle.walk.specs.Compute.{wholeB}
 use Rattle.walk.proofs.Runs.{same-end, run-fits}
 use Rattle.walk.proofs.Computed.{whole-of, of-whole}
-use Rattle.walk.proofs.Ends.{Ends, run-to-end, whole-stuck}
+use Rattle.walk.proofs.Ends.{run-to-end, whole-stuck}
 use Rattle.walk.proofs.ReadLaws.{sources-same}
 use Rattle.rebuild.specs.Promise.{Ended, Finishes, came, EncodesTo, decodeChecks, rebuildChecks, repairChecks, Rebuilt, Repaired}
 use Rattle.rebuild.specs.Data.{cameParity}
@@ -24,7 +24,7 @@ use Rattle.rebuild.specs.Stages.{lentChecks, packetChecks, namedChecks}
 use Rattle.rebuild.proofs.SourceLaws.{sources-ext}
 use Rattle.rebuild.proofs.Bounds.{Bounded, shaped-bounds}
 use Rattle.rebuild.proofs.Survivors.{encodes-bits}
-use Rattle.rebuild.proofs.AnswerLaws.{finishes-ended}
+use Rattle.rebuild.proofs.AnswerLaws.{finishes-ended, ended-finishes}
 
 module _ (D : Desk) where
   open Desk D using (k, m, bytes, present)
@@ -37,16 +37,22 @@ module _ (D : Desk) where
   pub one-count : (n n′ : ℕ) → Ended D n → Ended D n′ → n ≡ n′
   one-count n n′ E F = E .counted ∙ same-end D (E .run) (E .stuck) (F .run) (F .stuck) .0 ∙ sym (F .counted)
 
-  -- some order finishes, or none does: the end of any order tells
-  pub finishes-or-not : ((n : ℕ) × Finishes D n) ⊎ ((n : ℕ) → Finishes D n → ⊥)
-  finishes-or-not = go (wholeB D (E .end)) refl
-    where
-      E : Ends D (λ c. 0)
-      E = run-to-end D (λ c. 0) (λ b. omega arith)
+  -- some order runs to its end
+  pub some-end : (n : ℕ) × Ended D n
+  some-end =
+      let E = run-to-end D (λ c. 0) (λ b. omega arith) in
+      (length (E .order), record { order = E .order; end = E .end; run = E .run; stuck = E .stuck; counted = refl })
 
-      go : (v : Bool) → wholeB D (E .end) ≡ v → ((n : ℕ) × Finishes D n) ⊎ ((n : ℕ) → Finishes D n → ⊥)
-      go true e = inl (length (E .order), record { order = E .order; end = E .end; run = E .run; whole = whole-of D (E .end) (run-fits D (E .run) (λ b. omega arith)) e; counted = refl })
-      go false e = inr (λ n F. true≢false (sym (of-whole D (E .end) (finishes-ended D (length (E .order)) n record { order = E .order; end = E .end; run = E .run; stuck = E .stuck; counted = refl } F)) ∙ e))
+  -- some order finishes, or none does: that end tells
+  pub finishes-or-not : ((n : ℕ) × Finishes D n) ⊎ ((n : ℕ) → Finishes D n → ⊥)
+  finishes-or-not = go (wholeB D (E .1 .end)) refl
+    where
+      E : (n : ℕ) × Ended D n
+      E = some-end
+
+      go : (v : Bool) → wholeB D (E .1 .end) ≡ v → ((n : ℕ) × Finishes D n) ⊎ ((n : ℕ) → Finishes D n → ⊥)
+      go true e = inl (E .0, ended-finishes D (E .0) (E .1) (whole-of D (E .1 .end) (run-fits D (E .1 .run) (λ b. omega arith)) e))
+      go false e = inr (λ n F. true≢false (sym (of-whole D (E .1 .end) (finishes-ended D (E .0) n (E .1) F)) ∙ e))
 
   pub some-finishes : (((n : ℕ) → Finishes D n → ⊥) → ⊥) → (n : ℕ) × Finishes D n
   some-finishes h = go finishes-or-not

@@ -9,7 +9,7 @@ use Rattle.table.specs.Table.{Opens, deskOf}
 use Rattle.table.specs.Checks.{Checks, Checked, Outside, shapeChecks, marksChecks, numberChecks, markedChecks, inputChecks, outputChecks}
 use Rattle.table.specs.declared.Shape.{Shape}
 use Rattle.table.specs.declared.Opened.{Opened}
-use Rattle.table.proofs.CheckLaws.{stops, goes, neither, zero-checked, one-of, none-above}
+use Rattle.table.proofs.CheckLaws.{Numbered, stops, goes, neither, zero-checked, one-of, none-above}
 use Rattle.table.proofs.MarkLaws.{none-left}
 use Rattle.table.proofs.OpenLaws.{desk-opened}
 use Rattle.encode.specs.Code.{packetOf}
@@ -31,6 +31,13 @@ pub later : (x : ℕ) (cs ds : Checks) (n : ℕ) → x ≤ n → Below x cs → 
 later x [] ds n l b c = (refl, c)
 later x (d ∷ cs) ds n l b (inl c) = absurd (omega (arith, b .0, c .1))
 later x (d ∷ cs) ds n l b (inr c) = let r = later x cs ds n l (b .1) (c .1) in (inr (c .0, r .0), r .1)
+
+-- where the first list does not refuse, the second decides
+pub rest-decides : (cs ds : Checks) (n : ℕ) → Numbered cs → Checked cs 0 → Checked (cs ++ ds) n → Checked ds n
+rest-decides [] ds n p c x = x
+rest-decides (d ∷ cs) ds n p (inl c) x = absurd (omega (arith, p .0, c .1))
+rest-decides (d ∷ cs) ds n p (inr c) (inl x) = absurd (c .0 (x .0))
+rest-decides (d ∷ cs) ds n p (inr c) (inr x) = rest-decides cs ds n (p .1) (c .1) (x .1)
 
 module _ (D : Desk) (packets before : List ℕ) where
   abbrev lengths : ℕ → Checks

@@ -10,13 +10,13 @@ use Rattle.bits.specs.Bits.{bitAt, Bytes, slice}
 use Rattle.bits.proofs.BitLaws.{bytes-ext}
 use Rattle.bits.proofs.ByteLaws.{part-joined}
 use Rattle.bits.proofs.SumLaws.{sum-grows}
-use Rattle.table.specs.Desk.{Desk, packetBytes, placeOf}
-use Rattle.table.proofs.PacketLaws.{place-on}
+use Rattle.table.specs.Desk.{Desk, packetBits, packetBytes, placeOf}
+use Rattle.table.proofs.PacketLaws.{place-on, source-packet-bits}
 use Rattle.encode.specs.Code.{Bits, sourcesOf, packetOf, packetsOf, parity}
-use Rattle.encode.proofs.CodeLaws.{slice-length, slice-bytes, by-kind, packet-size, packet-bytes, packet-source-bits, packet-parity-bits, are-packets}
+use Rattle.encode.proofs.CodeLaws.{slice-length, slice-bytes, source-past, sum-past, by-kind, packet-size, packet-bytes, packet-source-bits, packet-parity-bits, are-packets}
 use Rattle.walk.specs.Walk.{Held}
 use Rattle.walk.specs.Read.{Encodes}
-use Rattle.rebuild.specs.Promise.{came, EncodesTo}
+use Rattle.rebuild.specs.Promise.{came, Stray, EncodesTo}
 use Rattle.rebuild.specs.Data.{cameParity}
 use Rattle.rebuild.proofs.SourceLaws.{sources-are}
 
@@ -33,6 +33,14 @@ module _ (D : Desk) where
     pub came-packet : EncodesTo D packets x → (i : ℕ) → i < k + m → present i ≡ true → came D packets i ≡ packetOf D x i
     unfolding packetsOf placeOf
     came-packet E i l e = rw (E .same) (part-joined present (packetOf D x) (packetBytes D) (packet-size D x (E .size)) (k + m) i l e)
+
+    -- no packet that sources encode to has a one above its last bit
+    pub encoded-not-stray : EncodesTo D packets x → Stray D packets → ⊥
+    encoded-not-stray E (i, l, e, (p, lp, one)) = by-kind D (λ j. j < k + m → present j ≡ true → packetBits D j ≤ p → bitAt (came D packets j) p ≡ 1 → ⊥)
+        (λ c lc l e lp one. omega (arith, ap (λ (xs : List ℕ). bitAt xs p) (came-packet E c l e) ∙ packet-source-bits D x c p lc ∙ source-past D x c p (omega (arith, source-packet-bits D c lc))))
+        (λ a l e lp one.
+        let la : a < m = omega arith in
+        omega (arith, ap (λ (xs : List ℕ). bitAt xs p) (came-packet E (k + a) l e) ∙ packet-parity-bits D full x a p la, sum-past D (sourcesOf D x) (λ c q _ lq. source-past D x c q (omega arith)) a p la lp)) i l e lp one
 
     -- s holds the present sources as they came
     module _ (s : Bits) (kept : (c p : ℕ) → c < k → present c ≡ true → s c p ≡ bitAt (came D packets c) p) where

@@ -1,5 +1,5 @@
 -- `look::found` meets its contract: the source's number and the marks, the buffers, and the place. Assumes nothing.
-use mathlib.Core.Path.{_≡_, refl, sym, _∙_, subst}
+use mathlib.Core.Path.{_≡_, sym, _∙_, subst}
 use Prim.Native.Nat.{_+_, _/_, _^_, _≤_}
 use native.Mathlib.Omega.{arith}
 use Rattle.table.specs.Desk.{Desk}

@@ -4,7 +4,6 @@ use mathlib.Core.Logic.{inl, inr}
 use Prim.Native.Nat.{_*_, _≤_}
 use native.Mathlib.Nat.{mul-le-mul}
 use native.Mathlib.Omega.{arith}
-use Rattle.table.specs.Desk.{mark}
 use Rattle.table.specs.Table.{deskOf}
 use Rattle.look.proofs.LookLaws.{place-among-sources}
 use borrow.Author.Needs.{needs}

@@ -1,0 +1,62 @@
+/* Debian's Jerasure: a Reed-Solomon code over bytes. The matrix is kept from call to call;
+ * jerasure_matrix_decode inverts it in every call. */
+#include "job.h"
+
+#include <jerasure.h>
+#include <jerasure/reed_sol.h>
+#include <stdlib.h>
+#include <string.h>
+
+enum { WORD = 8 };
+
+/* Jerasure wants all packets to start alike, so each has 64 bytes of room. */
+enum { ROOM = 64 };
+static uint64_t bytes[SOURCES_MOST + PARITIES_MOST][ROOM / 8];
+static char *sources[SOURCES_MOST], *parities[PARITIES_MOST];
+static int erased[SOURCES_MOST + 1];
+static int *matrix;
+
+static void begin(const job *j)
+{
+    free(matrix);
+    matrix = reed_sol_vandermonde_coding_matrix((int)j->k, (int)j->m, WORD);
+    for (unsigned i = 0; i < j->k; i++) {
+        sources[i] = (char *)bytes[i];
+        memcpy(bytes[i], j->sources + i * (size_t)LENGTH, LENGTH);
+    }
+    for (unsigned i = 0; i < j->m; i++) {
+        parities[i] = (char *)bytes[SOURCES_MOST + i];
+    }
+    for (unsigned i = 0; i < j->lost; i++) {
+        erased[i] = (int)i;
+    }
+    erased[j->lost] = -1;
+}
+
+static void encode(const job *j)
+{
+    jerasure_matrix_encode((int)j->k, (int)j->m, WORD, matrix, sources, parities, LENGTH);
+}
+
+static void lose(const job *j)
+{
+    memset(bytes, 0, j->lost * sizeof bytes[0]);
+}
+
+static void rebuild(const job *j)
+{
+    jerasure_matrix_decode((int)j->k, (int)j->m, WORD, matrix, 1, erased, sources, parities,
+                           LENGTH);
+}
+
+static const uint8_t *source(unsigned b)
+{
+    return (const uint8_t *)bytes[b - 1];
+}
+
+static const uint8_t *no_parities(void)
+{
+    return NULL;
+}
+
+const contestant jerasure = {"Jerasure", begin, encode, lose, rebuild, source, no_parities};

@@ -1,0 +1,323 @@
+// Runs the worked examples of the paper, and a few inputs that tell a wrong program from a right one, one line each.
+// Unless a line says so, k = 2, m = 2, L = 1 and the table is the house table (0,1),(0,2).
+use libc::STDOUT_FILENO;
+use look::Buffer;
+use table::Table;
+ghost use Prim.Native.Nat.{_<_};
+
+// The house table of k = 2 and m = 2.
+const HOUSE: [u8; 4] = [0, 1, 0, 2];
+
+// Room for what a card gives.
+const ROOM: usize = 64;
+
+fn say(text: &[u8]) {
+    io::write_all(STDOUT_FILENO, text);
+}
+
+fn say_number(n: u64) {
+    io::print_decimal(STDOUT_FILENO, n);
+}
+
+// A digit of sixteen.
+fn digit(d: u8) -> u8
+    requires { ⌜ d < 16 ⌝ }
+{
+    if d < 10 { b'0' + d } else { b'A' - 10 + d }
+}
+
+fn say_byte(x: u8) {
+    let text = [digit(x / 16), digit(x % 16)];
+    say(&text);
+}
+
+// What stands before the value at i of a list.
+fn say_gap(i: usize) {
+    if 0 < i {
+        say(b" ");
+    }
+}
+
+// Bytes, in hex.
+fn say_bytes(xs: &[u8]) {
+    let mut i = 0;
+    while i < xs.len() {
+        say_gap(i);
+        say_byte(xs[i]);
+        i += 1;
+    }
+}
+
+// The first n bytes.
+fn say_first(xs: &[u8], n: u64) {
+    if n <= xs.len() as u64 {
+        let end = n as usize;
+        say_bytes(&xs[..end]);
+    }
+}
+
+fn wide(x: u8) -> u64 {
+    x as u64
+}
+
+// Entries of a table, in decimal.
+fn say_entries(xs: &[u8]) {
+    let mut i = 0;
+    while i < xs.len() {
+        say_gap(i);
+        say_number(wide(xs[i]));
+        i += 1;
+    }
+}
+
+// Progress numbers.
+fn say_progress(g: &[u64; Table::SOURCES]) {
+    let mut i = 0;
+    while i < Table::SOURCES {
+        say_gap(i);
+        say_number(g[i]);
+        i += 1;
+    }
+}
+
+// The rest of a line that has a number only.
+fn say_refused(number: u64) {
+    say(b"number ");
+    say_number(number);
+    say(b"\n");
+}
+
+// The rest of a line that has a number, or bytes.
+fn say_answer(number: u64, bytes: &[u8]) {
+    if number != 0 {
+        say_refused(number);
+        return;
+    }
+    say_bytes(bytes);
+    say(b"\n");
+}
+
+// The house table of three sources and three parities.
+fn family() {
+    let mut rows = [0u8; 9];
+    table::house::family_table(3, 3, &mut rows);
+    say(b"k = 3, m = 3: rows ");
+    say_entries(&rows);
+    say(b"\n");
+}
+
+// All parities of two sources.
+fn encoded(sources: &[u8]) {
+    let mut parities = [0u8; 4];
+    let number = encode::encode_all(2, 2, 1, &HOUSE, sources, &mut parities);
+    say(b"encode ");
+    say_bytes(sources);
+    say(b": ");
+    say_answer(number, &parities);
+}
+
+fn say_whole(whole: u64) {
+    if whole == 1 {
+        say(b", whole, ends at ");
+    } else {
+        say(b", not whole, ends at ");
+    }
+}
+
+// The walk of k sources and as many parities.
+fn walked(table: &[u8], k: u64, marks: u64) {
+    let a = walk::walk(k, k, 1, table, marks);
+    say(b"walk marks ");
+    say_number(marks);
+    say(b": count ");
+    say_number(a.count);
+    say_whole(a.whole);
+    let g = a.progress;
+    say_progress(&g);
+    say(b"\n");
+}
+
+// Whether a table of two rows has growing differences.
+fn judged(table: &[u8]) {
+    let a = table::judge::judge(2, 2, table);
+    if a.growing == 1 {
+        say(b"judge: yes\n");
+    } else {
+        say(b"judge: no\n");
+    }
+}
+
+// The number and sources that a rebuild gives, and its count.
+fn say_rebuilt(number: u64, count: u64, sources: &[u8]) {
+    if number != 0 {
+        say(b"number ");
+        say_number(number);
+    } else {
+        say(b"sources ");
+        say_bytes(sources);
+    }
+    say(b", count ");
+    say_number(count);
+    say(b"\n");
+}
+
+// The sources that packets of k sources and as many parities give.
+fn rebuilt(table: &[u8], k: u64, marks: u64, packets: &[u8], sources: &mut [u8]) {
+    let a = rebuild::rebuild(k, k, 1, table, marks, packets, sources);
+    say(b"rebuild marks ");
+    say_number(marks);
+    say(b", packets ");
+    say_bytes(packets);
+    say(b": ");
+    say_rebuilt(a.number, a.count, sources);
+}
+
+fn rebuilt_two(table: &[u8], marks: u64, packets: &[u8]) {
+    let mut sources = [0u8; 2];
+    rebuilt(table, 2, marks, packets, &mut sources);
+}
+
+fn rebuilt_three(table: &[u8], marks: u64, packets: &[u8]) {
+    let mut sources = [0u8; 3];
+    rebuilt(table, 3, marks, packets, &mut sources);
+}
+
+// The number that a walk gives.
+fn numbered(label: &[u8], l: u64, table: &[u8], marks: u64) {
+    let a = walk::walk(2, 2, l, table, marks);
+    say(label);
+    say_refused(a.number);
+}
+
+// The information bytes of a block.
+fn say_information(block: &[u8]) {
+    let mut room = [0u8; ROOM];
+    let a = card::block(block, &mut room);
+    if a.number != 0 {
+        say_refused(a.number);
+        return;
+    }
+    if a.length == 0 {
+        say(b"no bytes\n");
+        return;
+    }
+    say_first(&room, a.length);
+    say(b"\n");
+}
+
+fn taken(block: &[u8]) {
+    say(b"block ");
+    say_bytes(block);
+    say(b": ");
+    say_information(block);
+}
+
+// A block with one byte more than there is room for.
+fn too_long() {
+    let mut block = [0u8; ROOM + 5];
+    block[2] = 65;
+    block[ROOM + 4] = 65;
+    say(b"block of LEN 65 into 64 bytes: ");
+    say_information(&block);
+}
+
+fn say_buffer(buffer: u64) {
+    if buffer == Buffer::SURVIVORS {
+        say(b"survivors at ");
+    } else {
+        say(b"rebuilt at ");
+    }
+}
+
+// The bytes of a source, looked at with packets 1 and 4 at hand.
+fn say_source<'a>(source: u64, survivors: &'a [u8], rebuilt: &'a [u8]) {
+    say_bytes(look::look(2, 2, 1, &HOUSE, 9, source, survivors, rebuilt));
+}
+
+// Where a source stands with packets 1 and 4 at hand, and its bytes.
+fn looked<'a>(source: u64, survivors: &'a [u8], rebuilt: &'a [u8]) {
+    let a = look::look_at(2, 2, 1, &HOUSE, 9, source, survivors, rebuilt);
+    say(b"look source ");
+    say_number(source);
+    say(b", marks 9: ");
+    if a.number != 0 {
+        say_refused(a.number);
+        return;
+    }
+    say_buffer(a.buffer);
+    say_number(a.start);
+    say(b": ");
+    say_source(source, survivors, rebuilt);
+    say(b"\n");
+}
+
+fn house_tables() {
+    family();
+    encoded(b"\x01\x01");
+    encoded(b"\x80\xC0");
+    rebuilt_two(&HOUSE, 12, b"\x03\x00\x05\x00");
+    walked(&HOUSE, 2, 9);
+    walked(&HOUSE, 2, 3);
+    rebuilt_two(&HOUSE, 12, b"\x03\x00\x05\x04");
+    rebuilt_two(&HOUSE, 12, b"\x03\x00\x05\x01");
+}
+
+// A table of two rows that has no growing differences, with both parities at hand.
+fn other_table(label: &[u8], table: &[u8]) {
+    say(label);
+    rebuilt_two(table, 12, b"\x00\x00\x00\x00");
+    say(label);
+    walked(table, 2, 12);
+    say(label);
+    judged(table);
+}
+
+fn other_tables() {
+    other_table(b"table (0,7),(0,7): ", b"\x00\x07\x00\x07");
+    other_table(b"table (0,8),(0,8): ", b"\x00\x08\x00\x08");
+    say(b"rows 0 0 5; 0 5 0; 5 0 0: ");
+    rebuilt_three(
+        b"\x00\x00\x05\x00\x05\x00\x05\x00\x00",
+        56,
+        b"\x00\x00\x00\x00\x00\x00",
+    );
+}
+
+fn numbers() {
+    numbered(b"marks 16: ", 1, &HOUSE, 16);
+    numbered(b"marks 7: ", 1, &HOUSE, 7);
+    numbered(b"entry 64: ", 1, b"\x00\x40\x00\x02", 12);
+    numbered(b"entry 65: ", 1, b"\x00\x41\x00\x02", 12);
+    numbered(b"L 56: ", 56, &HOUSE, 12);
+    numbered(b"L 57: ", 57, &HOUSE, 12);
+}
+
+fn blocks() {
+    taken(b"\x00\x00\x02\xAA\x55\xFD");
+    taken(b"\x00\x40\x02\xAA\x55\xBD");
+    taken(b"\x00\x00\x00\x00");
+    taken(b"\x00\x00\xFF\x00");
+    taken(b"\x00\x00\xFF\x00\x00");
+    too_long();
+}
+
+// Inputs that tell a wrong program from a right one.
+fn telling() {
+    rebuilt_two(&HOUSE, 12, b"\x00\x00\x00\x00");
+    rebuilt_two(&HOUSE, 12, b"\x00\x01\x80\x03");
+    rebuilt_two(&HOUSE, 12, b"\x00\x02\x00\x00");
+    rebuilt_two(&HOUSE, 9, b"\x01\x05\x00");
+    rebuilt_two(&HOUSE, 9, b"\x01\x04\x00");
+    numbered(b"marks 65548: ", 1, &HOUSE, 65548);
+    looked(1, b"\x80\x80\x03", b"\x80\xC0");
+    looked(2, b"\x80\x80\x03", b"\x80\xC0");
+    looked(3, b"\x80\x80\x03", b"\x80\xC0");
+}
+
+fn main() {
+    house_tables();
+    other_tables();
+    numbers();
+    blocks();
+    telling();
+}

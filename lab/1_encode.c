@@ -1,0 +1,43 @@
+/* Lesson 1: make a shift table, and encode.
+ *
+ * Three sources of three bytes become two parities. The picture shows each parity as what it is:
+ * the sources, each shifted up by its entry of the table, added bit by bit (XOR). */
+#include "show.h"
+
+enum { K = 3, M = 2, L = 3 };
+
+static void draw_parity(unsigned a, const uint8_t *row, const uint8_t *sources,
+                        const uint8_t *parity, size_t length)
+{
+    printf("\n             0       8       16      24\n");
+    for (unsigned b = 1; b <= K; b++) {
+        printf("  source %u   %*s", b, row[b - 1], "");
+        print_bits(sources + (b - 1) * L, 8 * L);
+        printf("%*s shifted up by %d\n", 8 - row[b - 1], "", row[b - 1]);
+    }
+    printf("  parity %u   ", a);
+    print_bits(parity, 8 * length);
+    printf(" which is ");
+    print_bytes(parity, length);
+    printf("\n");
+}
+
+int main(void)
+{
+    const uint8_t sources[K * L] = {'s', 'u', 'n', 'f', 'o', 'g', 'i', 'c', 'e'};
+    uint8_t table[M * K], parities[M * WH_LONGEST];
+
+    must(wh_family_table(K, M, table, sizeof table), "wh_family_table");
+    wh_measured parity = wh_packet_length(K, M, L, table, sizeof table, K + 1);
+    must(parity.number, "wh_packet_length");
+    size_t length = (size_t)parity.length;
+    must(wh_encode_all(K, M, L, table, sizeof table, sources, sizeof sources, parities, M * length),
+         "wh_encode_all");
+
+    printf("Sources \"sun\", \"fog\" and \"ice\", %d bytes each; parities of %zu bytes.\n", L,
+           length);
+    for (unsigned a = 1; a <= M; a++) {
+        draw_parity(a, table + (a - 1) * K, sources, parities + (a - 1) * length, length);
+    }
+    return 0;
+}

@@ -1,0 +1,77 @@
+/* Lesson 2: take blocks from a card reader into a packet.
+ *
+ * A reader hands over whatever came from the card. The packet's four bytes have the shift table
+ * right behind them, so a program that trusts the third byte of a block would write into it. */
+#include "show.h"
+
+#include <string.h>
+
+enum { PACKET = 4, BLOCK = 9 };
+
+typedef struct {
+    const char *what;
+    size_t length;
+    uint8_t bytes[BLOCK];
+} handed_over;
+
+/* NAD, PCB, LEN, information, LRC. */
+static const handed_over reader[] = {
+    {"a good block", 8, {0x00, 0x00, 4, 0x4C, 0x4F, 0x47, 0x31, 0x71}},
+    {"a good block, PCB 40", 8, {0x00, 0x40, 4, 0x4C, 0x4F, 0x47, 0x32, 0x32}},
+    {"nothing but a start", 3, {0x00, 0x00, 4}},
+    {"a length byte of 255", 8, {0x00, 0x00, 255, 0x4C, 0x4F, 0x47, 0x31, 0x8A}},
+    {"a byte lost on the way", 7, {0x00, 0x00, 4, 0x4C, 0x4F, 0x47, 0x31}},
+    {"a bit turned on the way", 8, {0x00, 0x00, 4, 0x4C, 0x4F, 0x46, 0x31, 0x71}},
+    {"a block of a chain", 8, {0x00, 0x20, 4, 0x4C, 0x4F, 0x47, 0x31, 0x51}},
+    {"five bytes for four", 9, {0x00, 0x00, 5, 0x4C, 0x4F, 0x47, 0x31, 0x21, 0x51}},
+    {"two bytes for four", 6, {0x00, 0x00, 2, 0x4C, 0x4F, 0x01}},
+};
+
+static const char *what_to_do(uint64_t number)
+{
+    switch (number) {
+    case 11: /* too short to be a block */
+    case 12: /* a length that no block has */
+    case 13: /* not as long as it says */
+    case 14: /* damaged */
+        return "ask the card for the block again";
+    case 15: /* another kind of block */
+        return "the card hands over no whole packet";
+    case 16: /* too long */
+        return "this card belongs to longer sources";
+    default:
+        return "this number is new to the program";
+    }
+}
+
+static void take(const handed_over *from, uint8_t *packet)
+{
+    wh_taken taken = wh_block(from->bytes, from->length, packet, PACKET);
+    printf("\n%-24s ", from->what);
+    print_bytes(from->bytes, from->length);
+    if (taken.number != 0) {
+        printf("\n  refused, %" PRIu64 ": %s\n  so: %s\n", taken.number, wh_meaning(taken.number),
+               what_to_do(taken.number));
+    } else if (taken.length != PACKET) {
+        printf("\n  taken, but %" PRIu64 " bytes are not a packet of %d\n", taken.length, PACKET);
+    } else {
+        printf("\n  taken: \"%.*s\"\n", PACKET, (const char *)packet);
+    }
+}
+
+int main(void)
+{
+    struct {
+        uint8_t packet[PACKET];
+        uint8_t table[4]; /* right behind the packet */
+    } desk;
+    must(wh_family_table(2, 2, desk.table, sizeof desk.table), "wh_family_table");
+    for (size_t i = 0; i < sizeof reader / sizeof reader[0]; i++) {
+        memset(desk.packet, 0, PACKET);
+        take(&reader[i], desk.packet);
+    }
+    printf("\nThe shift table behind the packet is still ");
+    print_bytes(desk.table, sizeof desk.table);
+    printf(".\n");
+    return 0;
+}

@@ -1,0 +1,197 @@
+/* Lesson 4: step through a decoding.
+ *
+ *   4_steps            with the house table, shifts 0 1 and 0 2
+ *   4_steps 0 7 0 7    with these shifts: parity 1's two, then parity 2's
+ *
+ * Both sources are lost and both parities are at hand. wh_next_step says which pair is bare; the
+ * program reads that bit in the parity and draws where it stands. */
+#include "show.h"
+
+#include <string.h>
+
+enum { K = 2, M = 2, L = 1, BITS = 8 * L, MARKS = 12 };
+
+typedef struct {
+    uint8_t table[M * K];
+    uint8_t parities[M * WH_LONGEST];
+    size_t length;               /* bytes of a parity */
+    uint64_t places;             /* bits of a parity that can be ones */
+    uint64_t progress[WH_MAX_K]; /* bits uncovered of each source */
+    uint8_t sources[K * L];      /* those bits */
+} decoding;
+
+static uint64_t entry(const decoding *d, uint64_t a, uint64_t b)
+{
+    return d->table[(a - 1) * K + b - 1];
+}
+
+/* The bit at a place of parity a once all known bits are taken out, each at its shifted place. */
+static int read_bit(const decoding *d, uint64_t a, uint64_t place)
+{
+    int bit = bit_of(d->parities + (a - 1) * d->length, place);
+    for (uint64_t b = 1; b <= K; b++) {
+        uint64_t shift = entry(d, a, b);
+        if (place >= shift && place - shift < d->progress[b - 1]) {
+            bit ^= bit_of(d->sources + (b - 1) * L, place - shift);
+        }
+    }
+    return bit;
+}
+
+static char source_shown(const decoding *d, uint64_t a, uint64_t b, uint64_t place)
+{
+    uint64_t p = place - entry(d, a, b);
+    if (place < entry(d, a, b) || p >= BITS) {
+        return ' ';
+    }
+    if (p < d->progress[b - 1]) {
+        return bit_of(d->sources + (b - 1) * L, p) ? '1' : '0';
+    }
+    return p == d->progress[b - 1] ? '?' : '.';
+}
+
+/* ---- The picture: a line for the places, one for what stands on the cards, one for each source,
+ *      and in each line first parity 1, then parity 2 ---- */
+
+static char line[1000];
+static size_t used;
+
+static void put(int shown)
+{
+    if (used < sizeof line) {
+        line[used++] = (char)shown;
+    }
+}
+
+static void end_line(void)
+{
+    while (used > 0 && line[used - 1] == ' ') {
+        used--;
+    }
+    printf("%.*s\n", (int)used, line);
+    used = 0;
+}
+
+static void begin_line(const char *name)
+{
+    for (size_t i = 0; i < 10; i++) {
+        put(i < strlen(name) ? name[i] : ' ');
+    }
+}
+
+static void draw_places(const decoding *d)
+{
+    begin_line("place");
+    for (uint64_t i = 0; i < M * (d->places + 2); i++) {
+        uint64_t place = i % (d->places + 2);
+        put(' ');
+        put(place < d->places ? '0' + (int)(place % 10) : ' ');
+    }
+    end_line();
+}
+
+static void draw_cards(const decoding *d)
+{
+    begin_line("on card");
+    for (uint64_t i = 0; i < M * (d->places + 2); i++) {
+        uint64_t a = i / (d->places + 2) + 1, place = i % (d->places + 2);
+        put(' ');
+        put(place < d->places ? '0' + bit_of(d->parities + (a - 1) * d->length, place) : ' ');
+    }
+    end_line();
+}
+
+/* Source b as it stands in parity a, the bare bit in brackets. */
+static void draw_source(const decoding *d, uint64_t a, uint64_t b, const wh_stepped *step)
+{
+    uint64_t bare = entry(d, a, b) + d->progress[b - 1];
+    int marked = step->parity == a && step->source == b;
+    for (uint64_t place = 0; place < d->places + 2; place++) {
+        put(marked && place == bare ? '[' : marked && place == bare + 1 ? ']' : ' ');
+        put(marked && place == bare ? '0' + read_bit(d, a, place) : source_shown(d, a, b, place));
+    }
+}
+
+static void draw(const decoding *d, const wh_stepped *step)
+{
+    static const char *const names[K] = {"source 1", "source 2"};
+    draw_places(d);
+    draw_cards(d);
+    for (uint64_t b = 1; b <= K; b++) {
+        begin_line(names[b - 1]);
+        for (uint64_t a = 1; a <= M; a++) {
+            draw_source(d, a, b, step);
+        }
+        end_line();
+    }
+    printf("\n");
+}
+
+/* ---- The steps ---- */
+
+static wh_stepped next_step(const decoding *d)
+{
+    wh_stepped step = wh_next_step(K, M, L, d->table, sizeof d->table, MARKS, d->progress);
+    must(step.number, "wh_next_step");
+    return step;
+}
+
+static void take(decoding *d, const wh_stepped *step)
+{
+    uint64_t b = step->source, p = d->progress[b - 1];
+    int bit = read_bit(d, step->parity, entry(d, step->parity, b) + p);
+    d->sources[(b - 1) * L + p / 8] |= (uint8_t)(bit << p % 8);
+    memcpy(d->progress, step->progress, sizeof d->progress);
+}
+
+static void begin(decoding *d)
+{
+    static const uint8_t recorded[K * L] = {'H', 'i'};
+    wh_measured parity = wh_packet_length(K, M, L, d->table, sizeof d->table, K + 1);
+    must(parity.number, "wh_packet_length");
+    d->length = (size_t)parity.length;
+    must(wh_encode_all(K, M, L, d->table, sizeof d->table, recorded, sizeof recorded, d->parities,
+                       M * d->length),
+         "wh_encode_all");
+    for (size_t i = 0; i < M * K; i++) {
+        uint64_t top = BITS + (uint64_t)d->table[i];
+        d->places = d->places < top ? top : d->places;
+    }
+}
+
+/* All steps, one picture each; then the picture where nothing is bare. */
+static void decode(decoding *d)
+{
+    uint64_t count = 0;
+    wh_stepped step = next_step(d);
+    while (step.parity != 0) {
+        count++;
+        printf("step %" PRIu64 ": parity %" PRIu64 " lays source %" PRIu64 " bare\n", count,
+               step.parity, step.source);
+        draw(d, &step);
+        take(d, &step);
+        step = next_step(d);
+    }
+    printf("after %" PRIu64 " steps nothing is bare\n", count);
+    draw(d, &step);
+}
+
+int main(int words, char **word)
+{
+    decoding d = {.table = {0}};
+    must(wh_family_table(K, M, d.table, sizeof d.table), "wh_family_table");
+    for (int i = 1; i < words && i <= M * K; i++) {
+        long shift = strtol(word[i], NULL, 10);
+        d.table[i - 1] = shift < 0 || shift > UINT8_MAX ? UINT8_MAX : (uint8_t)shift;
+    }
+    begin(&d);
+    printf("Two sources of one byte are lost. Parity 1 is on the left, parity 2 on the right.\n"
+           "0 and 1 are known bits, ? is the next one, . a later one, [ ] the bare one.\n\n");
+    decode(&d);
+    if (d.progress[0] == BITS && d.progress[1] == BITS) {
+        printf("Every bit is uncovered: \"%.*s\".\n", K * L, (const char *)d.sources);
+    } else {
+        printf("Stalled: in each parity the next bits of both sources stand at one place.\n");
+    }
+    return 0;
+}
