@@ -5,9 +5,13 @@
 #   make test       everything proved from nothing, and the C tests
 #   make demo       a logbook onto cards and back
 #   make install    header, library and windhawker.pc, below PREFIX
+#   make board      the library for a microcontroller, BOARD=cortex-m3 by default; see docs/BOARDS.md
+#   make board-test      every board in QEMU
+#   make board-figures   measure every board
 #   make clean      remove target/
 
 PREFIX  = /usr/local
+BOARD   = cortex-m3
 CFLAGS  = -std=c99 -O2 -Wall -Wextra -Wpedantic -Wconversion
 
 HEADERS = include/windhawker.h include/windhawker_limits.h
@@ -53,7 +57,16 @@ install: $(ARCHIVE) $(PC)
 	install -m 644 $(ARCHIVE) $(DESTDIR)$(PREFIX)/lib
 	install -m 644 $(PC) $(DESTDIR)$(PREFIX)/lib/pkgconfig
 
+board:
+	board/make $(BOARD)
+
+board-test:
+	board/test
+
+board-figures:
+	board/figures
+
 clean:
 	rm -rf target
 
-.PHONY: all lab test demo install clean always
+.PHONY: all lab test demo install board board-test board-figures clean always

@@ -281,7 +281,7 @@ pub fn size_number(k: u64, m: u64) -> u64
 }
 
 // 2.
-fn length_number(l: u64) -> u64
+pub fn length_number(l: u64) -> u64
     ensures { λ r. ⌜ Checked (lengthChecks l) r ⌝ }
 {
     if l < 1 {

@@ -1,0 +1,136 @@
+/* Counts the instructions of encode all and of rebuild. QEMU with `-icount shift=0` lets time go on
+ * by the same amount with each instruction; a loop of known length says how many a tick has. */
+#include "semihosting.h"
+#include "windhawker.h"
+#include "windhawker_limits.h"
+
+enum { LOOPS = 500000, REPEATS = 8 };
+
+#ifdef __riscv
+enum { TICKS_MOST = -1 };
+
+static void start_ticks(void)
+{
+}
+
+static uint32_t ticks(void)
+{
+    uint32_t now;
+    __asm__ volatile(".option push\n.option arch, +zicsr\ncsrr %0, minstret\n.option pop"
+                     : "=r"(now));
+    return now;
+}
+#else
+/* SysTick: 24 bits, counting down with the processor's clock. */
+enum { TICKS_MOST = 0xFFFFFF };
+
+static volatile uint32_t *const systick = (volatile uint32_t *)0xE000E010;
+
+static void start_ticks(void)
+{
+    systick[1] = TICKS_MOST;
+    systick[2] = 0;
+    systick[0] = 5;
+}
+
+static uint32_t ticks(void)
+{
+    return TICKS_MOST - systick[2];
+}
+#endif
+
+/* Two instructions, this many times. */
+static void loop(uint32_t times)
+{
+#ifdef __riscv
+    __asm__ volatile("1: addi %0, %0, -1\nbnez %0, 1b" : "+r"(times));
+#else
+    __asm__ volatile(".syntax unified\n1: subs %0, %0, #1\nbne 1b" : "+l"(times) : : "cc");
+#endif
+}
+
+static uint64_t ticks_of_loops;
+
+static uint64_t ticks_since(uint32_t began)
+{
+    return (ticks() - began) & (uint32_t)TICKS_MOST;
+}
+
+static uint64_t instructions_since(uint32_t began)
+{
+    return ticks_since(began) * 2 * LOOPS / ticks_of_loops;
+}
+
+typedef struct {
+    uint64_t k, m, l;
+} shape;
+
+static uint8_t table[WH_MAX_K * WH_MAX_M];
+static uint8_t sources[WH_MAX_K * WH_MAX_LENGTH], rebuilt_sources[WH_MAX_K * WH_MAX_LENGTH];
+static uint8_t parities[WH_MAX_M * WH_LONGEST], packets[WH_MAX_K * WH_LONGEST];
+
+static void say_count(const char *name, const shape *s, uint64_t count)
+{
+    say(name);
+    const uint64_t numbers[] = {s->k, s->m, s->l, count};
+    for (int i = 0; i < 4; i++) {
+        say(" ");
+        say_number(numbers[i]);
+    }
+    say("\n");
+}
+
+static void count_encode_all(const shape *s, size_t cells, size_t parity)
+{
+    uint32_t began = ticks();
+    for (int i = 0; i < REPEATS; i++) {
+        wh_encode_all(s->k, s->m, s->l, table, cells, sources, (size_t)(s->k * s->l), parities,
+                      (size_t)s->m * parity);
+    }
+    say_count("encode_all", s, instructions_since(began) / REPEATS);
+}
+
+/* As many sources lost as there are parities for. Those at hand stand before the parities. */
+static void count_rebuild(const shape *s, size_t cells, size_t parity)
+{
+    size_t lost = (size_t)(s->k < s->m ? s->k : s->m), kept = (size_t)s->k - lost, used = 0;
+    uint64_t marks = 0;
+    wh_rebuilt rebuilt = {0, 0};
+    for (size_t i = lost; i < (size_t)s->k + lost; i++) {
+        marks |= (uint64_t)1 << i;
+    }
+    for (size_t i = 0; i < kept * (size_t)s->l; i++) {
+        packets[used++] = sources[lost * (size_t)s->l + i];
+    }
+    for (size_t i = 0; i < lost * parity; i++) {
+        packets[used++] = parities[i];
+    }
+    uint32_t began = ticks();
+    for (int i = 0; i < REPEATS; i++) {
+        rebuilt = wh_rebuild(s->k, s->m, s->l, table, cells, marks, packets, used, rebuilt_sources,
+                             (size_t)(s->k * s->l));
+    }
+    uint64_t count = instructions_since(began) / REPEATS;
+    say_count(rebuilt.number == 0 ? "rebuild" : "refused", s, count);
+}
+
+int main(void)
+{
+    static const shape shapes[] = {{2, 2, 8}, {4, 2, 32}, {8, 8, 56}};
+    start_ticks();
+    uint32_t began = ticks();
+    loop(LOOPS);
+    ticks_of_loops = ticks_since(began);
+    for (size_t i = 0; i < sizeof sources; i++) {
+        sources[i] = (uint8_t)(i * 151 + 7);
+    }
+    for (int i = 0; i < 3; i++) {
+        const shape *s = &shapes[i];
+        size_t cells = (size_t)(s->k * s->m);
+        wh_family_table(s->k, s->m, table, cells);
+        wh_measured parity = wh_packet_length(s->k, s->m, s->l, table, cells, s->k + 1);
+        count_encode_all(s, cells, (size_t)parity.length);
+        count_rebuild(s, cells, (size_t)parity.length);
+    }
+    return 0;
+}

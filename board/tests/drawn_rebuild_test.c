@@ -1,0 +1,59 @@
+/* Rebuild, repair and look at drawn questions; half of the packets are damaged. */
+#include "calls_rebuild.h"
+#include "check.h"
+
+static void compare_drawn(const call *asked)
+{
+    compare_any_numbers(asked, 1);
+    compare_spoiled(asked, 300);
+}
+
+static void rebuild(void)
+{
+    compare_drawn(&rebuild_call);
+}
+
+static void repair(void)
+{
+    compare_drawn(&repair_call);
+}
+
+static void look(void)
+{
+    compare_drawn(&look_call);
+}
+
+static void damaged_packets(void)
+{
+    question q;
+    for (int i = 0; i < 300; i++) {
+        draw_small_shape(&q, 8, 2);
+        draw_marks(&q);
+        fit_survivors(&q, q.k * q.l);
+        damage(&q.input);
+        compare(&rebuild_call, &q);
+    }
+}
+
+/* Eight sources and eight parities, 56 bytes each, all sources missing; then a bit turned over. */
+static void at_the_limits(void)
+{
+    question q = house_question(8, 8, 56);
+    q.marks = 0xFF00;
+    fit_survivors(&q, 8 * 56);
+    compare(&rebuild_call, &q);
+    q.input.at[100] ^= 4;
+    compare(&rebuild_call, &q);
+}
+
+int main(void)
+{
+    static const named_test tests[] = {
+        {"drawn_rebuild", rebuild},
+        {"drawn_repair", repair},
+        {"drawn_look", look},
+        {"drawn_damaged_packets", damaged_packets},
+        {"drawn_rebuild_at_the_limits", at_the_limits},
+    };
+    return run_named_tests(tests, sizeof tests / sizeof tests[0]);
+}

@@ -1,0 +1,41 @@
+/* What goes between a test and the board: a question, then the bytes of its buffers; back, an
+ * answer, then the same bytes as they are after the call, with a margin on either side. All numbers
+ * have 64 bits, lowest byte first, so that both sides have them alike. */
+#ifndef MESSAGE_H
+#define MESSAGE_H
+
+#include <stdint.h>
+
+enum { TABLE, INPUT, REBUILT, OUTPUT, BUFFERS };
+enum { MARGIN = 16, MARGIN_BYTE = 0xA5, BUFFER_MOST = 640, RESULTS = 10 };
+enum { BYTES_ASKED = BUFFERS * BUFFER_MOST, BYTES_ANSWERED = BYTES_ASKED + 2 * MARGIN };
+
+typedef enum {
+    FAMILY_TABLE,
+    JUDGE,
+    PACKET_LENGTH,
+    SURVIVORS_LENGTH,
+    ENCODE_ALL,
+    ENCODE_ONE,
+    WALK,
+    NEXT_STEP,
+    REBUILD,
+    REPAIR,
+    LOOK,
+    BLOCK,
+    CALLS
+} call_number;
+
+typedef struct {
+    uint64_t call, k, m, l, marks, packet, source;
+    uint64_t progress[8];
+    uint64_t lengths[BUFFERS];
+} asked_message;
+
+typedef struct {
+    uint64_t number;
+    uint64_t results[RESULTS]; /* as the call's struct has them after the number; rest 0 */
+    uint64_t stack;            /* the deepest that the call went, in bytes */
+} answered_message;
+
+#endif

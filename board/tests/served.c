@@ -1,0 +1,168 @@
+/* The board's side of a test: takes questions, asks the library, sends the answers back. */
+#include "message.h"
+#include "semihosting.h"
+#include "windhawker.h"
+
+enum { PAINTED = 3072, OWN_FRAME = 64, PAINT = 0x5A };
+
+static asked_message asked;
+static answered_message answered;
+static uint8_t room[BYTES_ANSWERED + 8];
+static uint8_t *buffers[BUFFERS];
+static size_t lengths[BUFFERS];
+
+/* The buffers stand one after another, so at any address, between two margins. */
+static uint8_t *place_buffers(uint8_t *at)
+{
+    for (size_t i = 0; i < MARGIN; i++) {
+        *at++ = MARGIN_BYTE;
+    }
+    for (int i = 0; i < BUFFERS; i++) {
+        lengths[i] = (size_t)asked.lengths[i];
+        buffers[i] = lengths[i] == 0 ? NULL : at;
+        at += lengths[i];
+    }
+    for (size_t i = 0; i < MARGIN; i++) {
+        at[i] = MARGIN_BYTE;
+    }
+    return at + MARGIN;
+}
+
+static void set_results(uint64_t first, uint64_t second, const uint64_t *rest, size_t count)
+{
+    answered.results[0] = first;
+    answered.results[1] = second;
+    for (size_t i = 0; i < RESULTS - 2; i++) {
+        answered.results[2 + i] = i < count ? rest[i] : 0;
+    }
+}
+
+#define SHAPE asked.k, asked.m, asked.l, buffers[TABLE], lengths[TABLE]
+
+static uint64_t measure(wh_measured measured)
+{
+    set_results(measured.length, 0, NULL, 0);
+    return measured.number;
+}
+
+static uint64_t judge(void)
+{
+    wh_judged judged = wh_judge(asked.k, asked.m, buffers[TABLE], lengths[TABLE]);
+    set_results(judged.growing, 0, NULL, 0);
+    return judged.number;
+}
+
+static uint64_t walk(void)
+{
+    wh_walked walked = wh_walk(SHAPE, asked.marks);
+    set_results(walked.count, walked.whole, walked.progress, 8);
+    return walked.number;
+}
+
+static uint64_t next_step(void)
+{
+    wh_stepped stepped = wh_next_step(SHAPE, asked.marks, asked.progress);
+    set_results(stepped.parity, stepped.source, stepped.progress, 8);
+    return stepped.number;
+}
+
+static uint64_t rebuild(void)
+{
+    wh_rebuilt rebuilt = wh_rebuild(SHAPE, asked.marks, buffers[INPUT], lengths[INPUT],
+                                    buffers[OUTPUT], lengths[OUTPUT]);
+    set_results(rebuilt.count, 0, NULL, 0);
+    return rebuilt.number;
+}
+
+static uint64_t look(void)
+{
+    wh_looked looked = wh_look(SHAPE, asked.marks, asked.source, buffers[INPUT], lengths[INPUT],
+                               buffers[REBUILT], lengths[REBUILT]);
+    set_results(looked.buffer, looked.start, &looked.length, 1);
+    return looked.number;
+}
+
+static uint64_t block(void)
+{
+    wh_taken taken = wh_block(buffers[INPUT], lengths[INPUT], buffers[OUTPUT], lengths[OUTPUT]);
+    set_results(taken.length, 0, NULL, 0);
+    return taken.number;
+}
+
+__attribute__((noinline)) static uint64_t ask(void)
+{
+    set_results(0, 0, NULL, 0);
+    switch ((call_number)asked.call) {
+    case FAMILY_TABLE:
+        return wh_family_table(asked.k, asked.m, buffers[OUTPUT], lengths[OUTPUT]);
+    case JUDGE:
+        return judge();
+    case PACKET_LENGTH:
+        return measure(wh_packet_length(SHAPE, asked.packet));
+    case SURVIVORS_LENGTH:
+        return measure(wh_survivors_length(SHAPE, asked.marks));
+    case ENCODE_ALL:
+        return wh_encode_all(SHAPE, buffers[INPUT], lengths[INPUT], buffers[OUTPUT],
+                             lengths[OUTPUT]);
+    case ENCODE_ONE:
+        return wh_encode_one(SHAPE, asked.packet, buffers[INPUT], lengths[INPUT], buffers[OUTPUT],
+                             lengths[OUTPUT]);
+    case WALK:
+        return walk();
+    case NEXT_STEP:
+        return next_step();
+    case REBUILD:
+        return rebuild();
+    case REPAIR:
+        return wh_repair(SHAPE, asked.marks, buffers[INPUT], lengths[INPUT], asked.packet,
+                         buffers[OUTPUT], lengths[OUTPUT]);
+    case LOOK:
+        return look();
+    case BLOCK:
+        return block();
+    case CALLS:
+        break;
+    }
+    leave(4);
+}
+
+/* Paints the memory below the stack, but for its own frame, and gives where the stack ends. */
+__attribute__((noinline)) static volatile uint8_t *paint(void)
+{
+    volatile uint8_t *end = __builtin_frame_address(0);
+    for (int i = OWN_FRAME; i < PAINTED; i++) {
+        end[-i] = PAINT;
+    }
+    return end;
+}
+
+/* Asks, and sees how far down the paint is gone. */
+static void ask_on_paint(void)
+{
+    volatile uint8_t *end = paint();
+    answered.number = ask();
+    int deep = PAINTED - 1;
+    while (deep > OWN_FRAME && end[-deep] == PAINT) {
+        deep--;
+    }
+    answered.stack = (uint64_t)deep;
+}
+
+int main(void)
+{
+    long from = open_to_read("asked"), to = open_to_write("answered");
+    for (size_t turn = 0; read_all(from, &asked, sizeof asked); turn++) {
+        uint8_t *start = room + turn % 8;
+        uint8_t *end = place_buffers(start);
+        size_t length = (size_t)(end - start) - 2 * MARGIN;
+        if (!read_all(from, start + MARGIN, length)) {
+            return 5;
+        }
+        ask_on_paint();
+        if (!write_all(to, &answered, sizeof answered) ||
+            !write_all(to, start, (size_t)(end - start))) {
+            return 5;
+        }
+    }
+    return 0;
+}

@@ -1,0 +1,67 @@
+// Prints the class sheet of the line `k m L` on standard input.
+use libc::STDIN_FILENO;
+use libc::STDOUT_FILENO;
+use sheet::choices;
+use sheet::choices::Choice;
+use sheet::pieces;
+use sheet::reading;
+use sheet::reading::Line;
+ghost use Prim.Native.Nat.{_≤_};
+ghost use lib.ListN.{length};
+
+// One byte more than the longest line has, so that nothing after it is missed.
+const INPUT: usize = 13;
+
+// No more choices than there are sets of sixteen marks.
+const CHOICES: usize = 65536;
+
+// Writes the first n bytes of out.
+fn show(out: &[u8], n: usize)
+    requires { ⌜ n ≤ length (now out) ⌝ }
+{
+    io::write_all(STDOUT_FILENO, &out[..n]);
+}
+
+fn print_refusal(number: u64, out: &mut [u8]) {
+    let n = pieces::refusal(number, out);
+    show(out, n);
+}
+
+fn print_header(out: &mut [u8]) {
+    let n = pieces::header(out);
+    show(out, n);
+}
+
+fn print_row(line: Line, c: Choice, out: &mut [u8]) {
+    let n = pieces::row(line.k, line.m, line.l, c, out);
+    show(out, n);
+}
+
+// A line for each choice, from the first until none is left.
+fn print_rows(line: Line, out: &mut [u8]) {
+    let mut c = choices::first(line.k, line.m);
+    for _ in 0..CHOICES {
+        if c.ids[0] == 0 {
+            return;
+        }
+        print_row(line, c, out);
+        c = choices::next(line.k, line.m, c);
+    }
+}
+
+fn print_sheet(line: Line, out: &mut [u8]) {
+    if line.number != 0 {
+        print_refusal(line.number, out);
+        return;
+    }
+    print_header(out);
+    print_rows(line, out);
+}
+
+fn main() {
+    let mut input = [0u8; INPUT];
+    let n = io::read_full(STDIN_FILENO, &mut input);
+    let line = reading::read(&input[..n]);
+    let mut out = [0u8; pieces::ROOM];
+    print_sheet(line, &mut out);
+}

@@ -1,0 +1,11 @@
+pub mod Numerals
+pub mod Readings
+pub mod Lines
+pub mod Orders
+pub mod Holding
+pub mod Successors
+pub mod Writings
+pub mod Marking
+pub mod Rows
+pub mod OneAnswer
+pub mod Sheets

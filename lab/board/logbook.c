@@ -1,0 +1,67 @@
+/* A lesson: four cards of six are read, and the logbook is whole again.
+ *
+ * The logbook has four sources of eight bytes and two parities. Cards 1 and 4 are lost. The reader
+ * hands over each card's packet as one T=1 block; the one from card 3 came damaged at first. */
+#include "semihosting.h"
+#include "windhawker.h"
+#include "windhawker_limits.h"
+
+enum { K = 4, M = 2, L = 8 };
+
+typedef struct {
+    uint8_t card; /* its packet's number */
+    uint8_t length;
+    uint8_t bytes[13]; /* NAD, PCB, LEN, information, LRC */
+} received_block;
+
+/* In the order of the packets' numbers, as wh_rebuild wants them. */
+static const received_block received[] = {
+    {2, 12, {0x00, 0x00, 0x08, 0x6E, 0x64, 0x20, 0x53, 0x57, 0x2C, 0x20, 0x31, 0x1B}},
+    {3, 12, {0x00, 0x40, 0x08, 0x32, 0x20, 0x68, 0x61, 0x57, 0x6B, 0x73, 0x2C, 0x10}},
+    {3, 12, {0x00, 0x40, 0x08, 0x32, 0x20, 0x68, 0x61, 0x77, 0x6B, 0x73, 0x2C, 0x10}},
+    {5, 13, {0x00, 0x40, 0x09, 0x20, 0xF1, 0xAF, 0x15, 0x4E, 0x76, 0xD1, 0x21, 0x03, 0xE9}},
+    {6, 13, {0x00, 0x00, 0x09, 0xAC, 0x7A, 0x41, 0xFD, 0x07, 0x3C, 0x9C, 0xB3, 0x1E, 0x69}},
+};
+
+/* The packets at hand, one after another with no gaps, and their marks. */
+static uint8_t packets[K * WH_LONGEST];
+static size_t packets_length;
+static uint64_t marks;
+
+/* Takes a block's packet behind those that are there; a refused block leaves no trace. */
+static void take(const received_block *block)
+{
+    wh_taken taken = wh_block(block->bytes, block->length, packets + packets_length,
+                              sizeof packets - packets_length);
+    say("card ");
+    say_number(block->card);
+    say(": ");
+    say(wh_meaning(taken.number));
+    say_bytes(packets + packets_length, (size_t)taken.length);
+    say("\n");
+    if (taken.number == 0) {
+        packets_length += (size_t)taken.length;
+        marks |= (uint64_t)1 << (block->card - 1);
+    }
+}
+
+int main(void)
+{
+    uint8_t table[M * K];
+    char logbook[K * L + 1] = {0}; /* a 0 at the end, to be said */
+
+    for (size_t i = 0; i < sizeof received / sizeof received[0]; i++) {
+        take(&received[i]);
+    }
+    wh_family_table(K, M, table, sizeof table);
+    wh_rebuilt rebuilt = wh_rebuild(K, M, L, table, sizeof table, marks, packets, packets_length,
+                                    (uint8_t *)logbook, K * L);
+    say("rebuild: ");
+    say(wh_meaning(rebuilt.number));
+    say(", steps ");
+    say_number(rebuilt.count);
+    say("\n");
+    say(logbook);
+    say("\n");
+    return rebuilt.number == 0 ? 0 : 1;
+}
