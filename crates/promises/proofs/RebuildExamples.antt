@@ -33,6 +33,11 @@ pub both-parities : Rebuilt 2 2 1 house 12 (0x03 ∷ 0x00 ∷ 0x05 ∷ 0x00 ∷ 
 unfolding bytesB takenB shapeB sizeB tableB insideB lowB walkFrom parityOf sourceOf lowest placedOf lowerOf scan allB oneAt sum fullB wholeB entry most reach packetBits packetBytes placeOf sumOf sourcesOf packetOf packetsOf bit bitAt up fromBits bytesOf joined
 both-parities = rebuilt-meets 2 2 1 house 12 (0x03 ∷ 0x00 ∷ 0x05 ∷ 0x00 ∷ []) (9 ∷ 9 ∷ []) (record { taken = refl; input = refl; output = refl }) refl (0x01 ∷ 0x01 ∷ []) refl refl refl
 
+-- the sources 80, C0 from their parities 00 01 and 80 03: seven unknown bits lie below the lowest one
+pub ones-far-up : Rebuilt 2 2 1 house 12 (0x00 ∷ 0x01 ∷ 0x80 ∷ 0x03 ∷ []) (9 ∷ 9 ∷ []) 0 16 (0x80 ∷ 0xC0 ∷ [])
+unfolding bytesB takenB shapeB sizeB tableB insideB lowB walkFrom parityOf sourceOf lowest placedOf lowerOf scan allB oneAt sum fullB wholeB entry most reach packetBits packetBytes placeOf sumOf sourcesOf packetOf packetsOf bit bitAt up fromBits bytesOf joined
+ones-far-up = rebuilt-meets 2 2 1 house 12 (0x00 ∷ 0x01 ∷ 0x80 ∷ 0x03 ∷ []) (9 ∷ 9 ∷ []) (record { taken = refl; input = refl; output = refl }) refl (0x80 ∷ 0xC0 ∷ []) refl refl refl
+
 -- marks 1 and 4: count 8
 pub one-parity : Rebuilt 2 2 1 house 9 (0x01 ∷ 0x05 ∷ 0x00 ∷ []) (9 ∷ 9 ∷ []) 0 8 (0x01 ∷ 0x01 ∷ [])
 unfolding bytesB takenB shapeB sizeB tableB insideB lowB walkFrom parityOf sourceOf lowest placedOf lowerOf scan allB oneAt sum fullB wholeB entry most reach packetBits packetBytes placeOf sumOf sourcesOf packetOf packetsOf bit bitAt up fromBits bytesOf joined

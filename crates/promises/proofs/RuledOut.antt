@@ -1,7 +1,7 @@
 -- Wrong programs that document 01 names: no answer of that form meets the promise at this input. Assumes nothing.
 use mathlib.Core.Path.{_≡_, ap}
 use mathlib.Core.List.{List, [], _∷_}
-use Prim.Native.Nat.{ℕ}
+use Prim.Native.Nat.{ℕ, _%_}
 use native.Mathlib.Omega.{arith}
 use Rattle.bits.specs.Sums.{at}
 use Rattle.table.specs.Desk.{Grows, desk, entry}
@@ -14,7 +14,7 @@ use Rattle.rebuild.proofs.OneAnswer.{one-rebuilt}
 use Rattle.promises.proofs.OneAnswer.{one-family, one-judge, one-encode-all, one-walk}
 use Rattle.promises.proofs.Stepping.{last, more, stepping-is-the-walk}
 use Rattle.promises.proofs.Examples.{computedExamples, provedExamples, examples, example-met}
-use Rattle.promises.proofs.RebuildExamples.{house, seven, eight, both-parities, no-sources, stall-after-seven, whole-without-growing, stall-at-once}
+use Rattle.promises.proofs.RebuildExamples.{house, seven, eight, both-parities, ones-far-up, no-sources, stall-after-seven, whole-without-growing, stall-at-once}
 
 -- an encoder that writes nothing
 pub no-silent-encoder : EncodedAll 2 2 1 house (1 ∷ 1 ∷ []) (9 ∷ 9 ∷ 9 ∷ 9 ∷ []) 0 (9 ∷ 9 ∷ 9 ∷ 9 ∷ []) → ⊥
@@ -79,6 +79,12 @@ pub no-rebuild-of-zeros : {number count : ℕ} → Rebuilt 2 2 1 house 12 (0x03 
 no-rebuild-of-zeros {number} {count} x =
     let e = one-rebuilt 2 2 1 house 12 (0x03 ∷ 0x00 ∷ 0x05 ∷ 0x00 ∷ []) (9 ∷ 9 ∷ []) number count (0 ∷ 0 ∷ []) 0 16 (0x01 ∷ 0x01 ∷ []) x both-parities in
     omega (arith, ap (λ l. at l 0) (e .2))
+
+-- one that takes the lowest set bit for the lowest unknown bit: it reads a one first
+pub no-lowest-set-bit : {number count : ℕ} {after : List ℕ} → at after 0 % 2 ≡ 1 → Rebuilt 2 2 1 house 12 (0x00 ∷ 0x01 ∷ 0x80 ∷ 0x03 ∷ []) (9 ∷ 9 ∷ []) number count after → ⊥
+no-lowest-set-bit {number} {count} {after} odd x =
+    let e = one-rebuilt 2 2 1 house 12 (0x00 ∷ 0x01 ∷ 0x80 ∷ 0x03 ∷ []) (9 ∷ 9 ∷ []) number count after 0 16 (0x80 ∷ 0xC0 ∷ []) x ones-far-up in
+    omega (arith, odd, ap (λ l. at l 0) (e .2))
 
 -- one that never gives 10
 pub no-rebuild-without-ten : {number count : ℕ} {after : List ℕ} → (number ≡ 10 → ⊥) → Rebuilt 2 2 1 house 12 (0x03 ∷ 0x00 ∷ 0x05 ∷ 0x01 ∷ []) (9 ∷ 9 ∷ []) number count after → ⊥
