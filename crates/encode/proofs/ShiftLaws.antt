@@ -1,15 +1,14 @@
--- Laws of a source that is shifted up byte by byte, with a carry, and of bytes added from a place on.
+-- Laws of a source that is shifted up, what stays in each byte's place first and then what crosses into the next one, and of bytes added from a place on.
 use mathlib.Core.Path.{_≡_, refl, sym, ap, _∙_}
 use mathlib.Core.Logic.{_≢_, ⊎-elim}
 use mathlib.Core.List.{List}
-use Prim.Native.Nat.{ℕ, _+_, _*_, _/_, _%_, _^_, _≤_, _<_}
-use native.Mathlib.Nat.{mod-lt, mod-add-mod, add-mod-mod, lt-of-lt-of-le, div-add-mod'}
+use Prim.Native.Nat.{ℕ, zero, suc, _+_, _-_, _*_, _/_, _%_, _^_, _≤_, _<_}
+use native.Mathlib.Nat.{mod-lt, mod-add-mod, add-mod-mod, lt-of-le-of-lt, le-refl, le-of-lt, div-add-mod', div-eq-of-lt, mul-div-mul-right}
 use native.Mathlib.Numerals.{add-one}
 use native.Mathlib.Omega.{arith}
-use lib.Arith.{digits-lt}
 use lib.Dec.{lit<}
-use lib.Bits.{bitXor, bitAnd, bitOr, or-shifted}
-use lib.Pow.{pow-pos, pow-add, pow-mono, shl-lt, shl-exact, shr-lt}
+use lib.Bits.{bitXor, bitAnd}
+use lib.Pow.{pow-pos, pow-add, shl-lt, shl-exact, shr-le}
 use lib.ListN.{length, getD, set, take, replicate, length-set, length-take, length-replicate}
 use lib.Seq.{getD-set-other, take-length}
 use Rattle.bits.specs.Bits.{bit, bitAt, num, Bytes, up}
@@ -44,77 +43,97 @@ two-bytes W k p =
     let low-byte : W % 256 * 2 ^ (8 * k) < 2 ^ (8 * (k + 1)) = rw e₂ (shl-lt 8 (8 * k) (mod-lt W (lit< tt))) in
     rw (both, bit-beside (W / 2 ^ 8) (8 * (k + 1)) (W % 256 * 2 ^ (8 * k)) p low-byte) (ap (λ (x : ℕ). x % 2) (omega arith))
 
--- a carry of s bits beside a byte shifted up by s
-bit-carry : (a s r k p : ℕ) → r < 2 ^ s → bit ((a * 2 ^ s + r) * 2 ^ (8 * k)) p ≡ (bit (a * 2 ^ s * 2 ^ (8 * k)) p + bit (r * 2 ^ (8 * k)) p) % 2
-bit-carry a s r k p h =
-    let place : a * 2 ^ s * 2 ^ (8 * k) ≡ a * 2 ^ (s + 8 * k) = omega (arith, ap (λ (x : ℕ). a * x) (pow-add 2 s (8 * k))) in
-    let both : (a * 2 ^ s + r) * 2 ^ (8 * k) ≡ a * 2 ^ (s + 8 * k) + r * 2 ^ (8 * k) = omega (arith, place) in
-    rw (both, place) (bit-beside a (s + 8 * k) (r * 2 ^ (8 * k)) p (shl-lt s (8 * k) h))
-
--- what the code shifts and joins, in sixteen bits
-pub word : (a s r w : ℕ) → a < 2 ^ 8 → s < 8 → r < 2 ^ s → w ≡ a → bitOr (w * 2 ^ s % 2 ^ 16) r ≡ a * 2 ^ s + r
-word a s r w h l hr p = rw (p, shl-exact 8 s 16 h (omega arith)) (or-shifted a s r hr)
-
 -- ---- the shifted copy
 
--- t and the carry r have the bits of xs's first i bytes, shifted up by e; t is 0 from the carry's place on
-abbrev pub Copied : List ℕ → ℕ → ℕ → ℕ → List ℕ → Type 0
-Copied xs e i r t =
-    (length t ≡ 64)
-    × (r < 2 ^ (e % 8))
-    × ((p : ℕ) → (bitAt t p + bit (r * 2 ^ (8 * (i + e / 8))) p) % 2 ≡ up e (bitAt (take i xs)) p)
-    × ((k : ℕ) → i + e / 8 ≤ k → getD t k 0 ≡ 0)
+-- bit p of what stays in the places of the first i bytes, and of what crosses into the next ones, summed
+pub lows : List ℕ → ℕ → ℕ → ℕ → ℕ
+lows xs e zero p = 0
+lows xs e (suc i) p = lows xs e i p + bit (getD xs i 0 * 2 ^ (e % 8) % 256 * 2 ^ (8 * (i + e / 8))) p
 
-pub copied-none : (xs : List ℕ) (e : ℕ) → Copied xs e 0 0 (replicate 64 0)
-copied-none xs e = (
-  length-replicate {A = ℕ} 64 0,
-  pow-pos (e % 8),
-  λ p. omega (arith, up-none e p, zero-bits 64 p, bit-zero-shl (8 * (0 + e / 8)) p),
-  λ k _. getD-zeros 64 k,
-)
+pub highs : List ℕ → ℕ → ℕ → ℕ → ℕ
+highs xs e zero p = 0
+highs xs e (suc j) p = highs xs e j p + bit (getD xs j 0 / 2 ^ (8 - e % 8) * 2 ^ (8 * (j + e / 8 + 1))) p
+
+-- t has what stays of i bytes and what crosses of j
+abbrev pub Parts : List ℕ → ℕ → ℕ → ℕ → List ℕ → Type 0
+Parts xs e i j t = (length t ≡ 64) × ((p : ℕ) → bitAt t p ≡ (lows xs e i p + highs xs e j p) % 2)
+
+-- t is 0 from byte n on
+abbrev pub ZeroFrom : ℕ → List ℕ → Type 0
+ZeroFrom n t = (k : ℕ) → n ≤ k → getD t k 0 ≡ 0
+
+pub parts-none : (xs : List ℕ) (e : ℕ) → Parts xs e 0 0 (replicate 64 0) × ZeroFrom (0 + e / 8) (replicate 64 0)
+unfolding lows highs
+parts-none xs e = ((length-replicate {A = ℕ} 64 0, λ p. zero-bits 64 p), λ k _. getD-zeros 64 k)
+
+-- what the code stores of a byte, and what it adds to the next one
+low-part : (a s w : ℕ) → a < 2 ^ 8 → s < 8 → w ≡ a → bitAnd (w * 2 ^ s % 2 ^ 16) 255 ≡ a * 2 ^ s % 256
+low-part a s w h l p = rw (p, shl-exact 8 s 16 h (omega arith)) (and-255 (a * 2 ^ s))
+
+high-part : (a s : ℕ) → s < 8 → a / 2 ^ (8 - s) ≡ a * 2 ^ s / 2 ^ 8
+high-part a s l =
+    let e : 8 ≡ (8 - s) + s = omega arith in
+    sym (ap (λ (x : ℕ). a * 2 ^ s / 2 ^ x) e ∙ ap (λ (x : ℕ). a * 2 ^ s / x) (pow-add 2 (8 - s) s) ∙ mul-div-mul-right a (2 ^ (8 - s)) (pow-pos s))
 
 -- sums modulo 2
-par-carry : (d n n' v w a r aw : ℕ) → (d + r) % 2 ≡ n → n' ≡ (n + a) % 2 → aw ≡ (v + w) % 2 → aw ≡ (a + r) % 2 → ((d + v) % 2 + w) % 2 ≡ n'
-par-carry d n n' v w a r aw p q x y =
-    simp mod-add-mod (ap (λ (k : ℕ). k % 2) (omega arith))
-    ∙ sym (add-mod-mod d (v + w) 2) ∙ ap (λ (k : ℕ). (d + k) % 2) (sym x ∙ y) ∙ add-mod-mod d (a + r) 2
-    ∙ ap (λ (k : ℕ). k % 2) (omega arith)
-    ∙ sym (mod-add-mod (d + r) 2 a) ∙ ap (λ (k : ℕ). (k + a) % 2) p ∙ sym q
+par-low : (d l h v : ℕ) → d ≡ (l + h) % 2 → (d + v) % 2 ≡ (l + v + h) % 2
+par-low d l h v p = rw p (simp mod-add-mod (ap (λ (x : ℕ). x % 2) (omega arith)))
 
--- one byte more: the word's low byte is stored, and its high byte carried
-module _ (xs : List ℕ) (h : Bytes xs) (i e r W : ℕ) (t : List ℕ) (l : i < length xs) (w : W ≡ getD xs i 0 * 2 ^ (e % 8) + r) (room : 8 * length xs + e ≤ 512) (inv : Copied xs e i r t) where
-  word-lt : W < 2 ^ (e % 8 + 8)
-  word-lt = rw (w, pow-add 2 (e % 8) 8) (omega (arith, digits-lt (h i) (inv .1)))
+par-high : (d l h v : ℕ) → d ≡ (l + h) % 2 → (d + v) % 2 ≡ (l + (h + v)) % 2
+par-high d l h v p = rw p (simp mod-add-mod (ap (λ (x : ℕ). x % 2) (omega arith)))
 
-  pub copied-more : Copied xs e (i + 1) (W / 2 ^ 8) (set t (i + e / 8) (bitAnd W 255))
-  copied-more = (
-    simp length-set (inv .0),
-    shr-lt (e % 8) 8 word-lt,
-    λ p.
-        let k = i + e / 8 in
-        let e₁ : i + 1 + e / 8 ≡ k + 1 = omega arith in
-        rw (and-255, e₁, bitAt-put t k (W % 256) p (omega (arith, inv .0)) (omega arith) (inv .3 k (omega arith)))
-        (par-carry (bitAt t p) (up e (bitAt (take i xs)) p) (up e (bitAt (take (i + 1) xs)) p) (bit (W % 256 * 2 ^ (8 * k)) p) (bit (W / 2 ^ 8 * 2 ^ (8 * (k + 1))) p)
-        (bit (getD xs i 0 * 2 ^ (e % 8) * 2 ^ (8 * k)) p) (bit (r * 2 ^ (8 * k)) p) (bit (W * 2 ^ (8 * k)) p)
-        (inv .2 p) (up-grow xs h i e p l) (two-bytes W k p) (ap (λ (x : ℕ). bit (x * 2 ^ (8 * k)) p) w ∙ bit-carry (getD xs i 0) (e % 8) r k p (inv .1))),
-    λ k m. getD-set-other t (i + e / 8) k (bitAnd W 255) 0 (omega arith) ∙ inv .3 k (omega arith),
-  )
+-- one byte more
+module _ (xs : List ℕ) (h : Bytes xs) (e : ℕ) (t : List ℕ) (room : 8 * length xs + e ≤ 512) where
+  pub parts-low : (i w : ℕ) → i < length xs → w ≡ getD xs i 0 → Parts xs e i 0 t → ZeroFrom (i + e / 8) t
+      → Parts xs e (i + 1) 0 (set t (i + e / 8) (bitAnd (w * 2 ^ (e % 8) % 2 ^ 16) 255)) × ZeroFrom (i + 1 + e / 8) (set t (i + e / 8) (bitAnd (w * 2 ^ (e % 8) % 2 ^ 16) 255))
+  unfolding lows
+  parts-low i w l q inv z =
+      let k = i + e / 8 in
+      let v = getD xs i 0 * 2 ^ (e % 8) % 256 in
+      rw (low-part (getD xs i 0) (e % 8) w (h i) (omega arith) q) (
+        (
+          simp length-set (inv .0),
+          λ p. rw (add-one i) (bitAt-put t k v p (omega (arith, inv .0)) (omega arith) (z k (omega arith)) ∙ par-low _ _ _ _ (inv .1 p)),
+        ),
+        λ n m. getD-set-other t k n v 0 (omega arith) ∙ z n (omega arith),
+      )
 
--- the end: the carry is stored, or there is none
-module _ (xs : List ℕ) (e r i : ℕ) (t : List ℕ) (all : i ≡ length xs) (room : 8 * length xs + e ≤ 512) (inv : Copied xs e i r t) where
-  whole : (p : ℕ) → (bitAt t p + bit (r * 2 ^ (8 * (i + e / 8))) p) % 2 ≡ up e (bitAt xs) p
-  whole p = inv .2 p ∙ rw (all, take-length)
+  pub parts-high : (i j : ℕ) → j < length xs → e % 8 ≢ 0 → Parts xs e i j t
+      → Parts xs e i (j + 1) (set t (j + e / 8 + 1) (bitXor (getD t (j + e / 8 + 1) 0) (getD xs j 0 / 2 ^ (8 - e % 8))))
+  unfolding highs
+  parts-high i j l n inv =
+      let v = getD xs j 0 / 2 ^ (8 - e % 8) in (
+        simp length-set (inv .0),
+        λ p. rw (add-one j) (bitAt-xor t (j + e / 8 + 1) v p (omega (arith, inv .0)) (lt-of-le-of-lt (shr-le (getD xs j 0) (8 - e % 8)) (h j)) ∙ par-high _ _ _ _ (inv .1 p)),
+      )
 
-  pub carry-lt : r < 2 ^ 8
-  carry-lt = lt-of-lt-of-le (inv .1) (pow-mono {i = e % 8} {j = 8} (omega arith))
+-- both parts of i bytes are those bytes, shifted up
+par-both : (l v h w n a n' : ℕ) → (l + h) % 2 ≡ n → n' ≡ (n + a) % 2 → a ≡ (v + w) % 2 → (l + v + (h + w)) % 2 ≡ n'
+par-both l v h w n a n' p q r = rw (q, ← p, r) (simp (mod-add-mod, add-mod-mod) (ap (λ (x : ℕ). x % 2) (omega arith)))
 
-  pub copied-carry : e % 8 ≢ 0 → (p : ℕ) → bitAt (set t (i + e / 8) r) p ≡ up e (bitAt xs) p
-  copied-carry z p = bitAt-put t (i + e / 8) r p (omega (arith, inv .0)) carry-lt (inv .3 (i + e / 8) (omega arith)) ∙ whole p
+both : (xs : List ℕ) → Bytes xs → (e i p : ℕ) → i ≤ length xs → (lows xs e i p + highs xs e i p) % 2 ≡ up e (bitAt (take i xs)) p
+unfolding lows highs
+both xs h e zero p l = sym (up-none e p)
+both xs h e (suc i) p l =
+    rw (high-part (getD xs i 0) (e % 8) (omega arith), ← add-one i)
+    (par-both (lows xs e i p) _ (highs xs e i p) _ (up e (bitAt (take i xs)) p) _ _
+    (both xs h e i p (le-of-lt l)) (up-grow xs h i e p l) (two-bytes (getD xs i 0 * 2 ^ (e % 8)) (i + e / 8) p))
 
-  pub copied-whole : e % 8 ≡ 0 → (p : ℕ) → bitAt t p ≡ up e (bitAt xs) p
-  copied-whole z p =
-      let r₀ : r ≡ 0 = omega (arith, rw z at (inv .1)) in
-      omega (arith, whole p, bitAt-lt t p, ap (λ (x : ℕ). bit (x * 2 ^ (8 * (i + e / 8))) p) r₀ ∙ bit-zero-shl (8 * (i + e / 8)) p)
+-- nothing crosses where the shift is by whole bytes
+highs-none : (xs : List ℕ) → Bytes xs → (e j p : ℕ) → e % 8 ≡ 0 → highs xs e j p ≡ 0
+unfolding highs
+highs-none xs h e zero p z = refl
+highs-none xs h e (suc j) p z =
+    let none : getD xs j 0 / 2 ^ (8 - e % 8) ≡ 0 = rw z (div-eq-of-lt (h j)) in
+    omega (arith, highs-none xs h e j p z, ap (λ (x : ℕ). bit (x * 2 ^ (8 * (j + e / 8 + 1))) p) none ∙ bit-zero-shl (8 * (j + e / 8 + 1)) p)
+
+-- the end
+module _ (xs : List ℕ) (h : Bytes xs) (e i : ℕ) (t : List ℕ) (all : i ≡ length xs) where
+  pub parts-all : (j : ℕ) → j ≡ length xs → Parts xs e i j t → (p : ℕ) → bitAt t p ≡ up e (bitAt xs) p
+  parts-all j r inv p = inv .1 p ∙ rw (all, r) (both xs h e (length xs) p (le-refl (length xs)) ∙ rw take-length)
+
+  pub parts-whole : e % 8 ≡ 0 → Parts xs e i 0 t → (p : ℕ) → bitAt t p ≡ up e (bitAt xs) p
+  parts-whole z inv p = parts-all i all (inv .0, λ q. rw (highs-none xs h e i q z, ← highs-none xs h e 0 q z) (inv .1 q)) p
 
 -- ---- bytes added from a place on
 

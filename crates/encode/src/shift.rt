@@ -15,7 +15,8 @@ pub fn shift_add(dst: &mut [u8], start: usize, src: &[u8], e: usize)
     add_bytes(dst, start, &copy, (e + 7) / 8 + src.len());
 }
 
-// src, shifted up by e bits.
+// src, shifted up by e bits: what stays in a byte's place, and then what crosses into the next one.
+// With no carry from turn to turn both loops take many bytes at a time.
 fn shifted(src: &[u8], e: usize) -> [u8; Table::LONGEST]
     requires { ⌜ 8 * length (now src) + e ≤ 512 ⌝ }
     ensures { λ r. ⌜ ((p : ℕ) → bitAt r p ≡ up e (bitAt (now (src .entry))) p) ⌝ }
@@ -24,15 +25,16 @@ fn shifted(src: &[u8], e: usize) -> [u8; Table::LONGEST]
     let q = e / 8;
     let s = e % 8;
     let mut i = 0;
-    let mut carry: u16 = 0;
     while i < src.len() {
-        let w = wide(src[i]) << s | carry;
-        copy[i + q] = (w & 255) as u8;
-        carry = w >> 8;
+        copy[i + q] = (wide(src[i]) << s & 255) as u8;
         i += 1;
     }
     if s != 0 {
-        copy[i + q] = carry as u8;
+        let mut j = 0;
+        while j < src.len() {
+            copy[j + q + 1] ^= src[j] >> (8 - s);
+            j += 1;
+        }
     }
     copy
 }

@@ -240,7 +240,7 @@ fn laid_out(k: usize, m: usize, table: &[u8]) -> [u8; Table::CELLS]
 {
     let mut shifts = [0u8; Table::CELLS];
     let mut i = 0;
-    while i < Table::CELLS {
+    while i < m * Table::SOURCES {
         shifts[i] = cell(k, m, table, i);
         i += 1;
     }
