@@ -11,3 +11,4 @@ pub mod AnswerLaws
 pub mod StageLaws
 pub mod OneAnswer
 pub mod NoneMissing
+pub mod Skips

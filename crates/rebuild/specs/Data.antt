@@ -4,15 +4,30 @@ use mathlib.Core.Bool.{Bool, true, false, cond}
 use mathlib.Core.List.{List}
 use Prim.Native.Nat.{ℕ, _+_, _*_, _%_, _≤_, _<_}
 use lib.Dec.{ltb}
-use lib.ListN.{take}
-use Rattle.bits.specs.Sums.{oneAt}
+use lib.ListN.{length, take}
+use Rattle.bits.specs.Sums.{at, oneAt}
 use Rattle.bits.specs.Bits.{bitAt, Tells}
-use Rattle.table.specs.Limits.{longest}
-use Rattle.table.specs.Desk.{Desk}
+use Rattle.table.specs.Limits.{maxK, longest}
+use Rattle.table.specs.Desk.{Desk, mark}
 use Rattle.encode.specs.Code.{Bits, sumOf, sourcesOf}
-use Rattle.walk.specs.Walk.{Gone, Whole}
+use Rattle.walk.specs.Walk.{Gone, Bare, Stuck, Whole}
 use Rattle.walk.specs.Read.{put, readBy}
 use Rattle.rebuild.specs.Promise.{Ended, came, EncodesTo}
+
+-- a bare pair, or m and then none is bare
+pub record SomePair (D : Desk) (g : ℕ → ℕ) (a b : ℕ) : Type 0 where
+  pub bare : a < D .m → Bare D g a b
+  pub stuck : D .m ≤ a → Stuck D g
+
+-- the first n columns are missing sources in order, column n is b, and every other source below b is present
+pub record Lists (k marks : ℕ) (columns : List ℕ) (n b : ℕ) : Type 0 where
+  pub eight : length columns ≡ maxK + 1
+  pub inside : (j : ℕ) → j < n → at columns j < k
+  pub grow : (j : ℕ) → j < n → at columns j + 1 ≤ at columns (j + 1)
+  pub first : (c : ℕ) → 0 ≤ c → c < at columns 0 → mark marks c ≡ true
+  pub between : (j : ℕ) → j < n → (c : ℕ) → at columns j + 1 ≤ c → c < at columns (j + 1) → mark marks c ≡ true
+  pub last : at columns n ≡ b
+  pub few : n ≤ b
 
 -- the bits that a row of the remainders has room for: as many as the longest parity
 abbrev pub rowBits : ℕ

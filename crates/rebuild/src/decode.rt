@@ -1,18 +1,21 @@
 // The half of rebuild that touches data: the packets at hand put in their places, and the missing sources uncovered bit by bit.
 use table::Shape;
 use table::Table;
+use walk::Low;
+use walk::Pair;
 ghost use mathlib.Core.Path.{_≡_};
-ghost use mathlib.Core.Bool.{Bool};
+ghost use mathlib.Core.Bool.{Bool, true};
 ghost use lib.ListN.{length};
 ghost use Prim.Native.Nat.{ℕ, _+_, _*_, _/_, _^_, _≤_, _<_};
-ghost use Rattle.bits.specs.Sums.{oneAt};
+ghost use Rattle.bits.specs.Sums.{at, oneAt};
 ghost use Rattle.bits.specs.Bits.{bitAt, Bytes, ClearFrom, Tells, slice};
 ghost use Rattle.table.specs.Limits.{maxK, maxLength};
 ghost use Rattle.table.specs.Desk.{mark, sourceBits, packetBytes, placeOf};
 ghost use Rattle.table.specs.Table.{Within, deskOf};
 ghost use Rattle.encode.specs.Code.{sumOf, sourcesOf};
-ghost use Rattle.walk.specs.Walk.{Gone};
-ghost use Rattle.rebuild.specs.Data.{Put, Placed, RowsAdded, Took, Decoded, ReadBack};
+ghost use Rattle.walk.specs.Walk.{Gone, Bare, Fits};
+ghost use Rattle.walk.specs.Compute.{scan};
+ghost use Rattle.rebuild.specs.Data.{SomePair, Lists, Put, Placed, RowsAdded, Took, Decoded, ReadBack};
 
 // Room for all sources, one after another.
 pub const SOURCES: usize = Table::SOURCES * Table::MAX_LENGTH as usize;
@@ -21,6 +24,9 @@ pub const SOURCES: usize = Table::SOURCES * Table::MAX_LENGTH as usize;
 const ROW_BITS: usize = 8 * Table::LONGEST;
 
 const ROWS: usize = Table::MAX_M as usize * Table::LONGEST;
+
+// Room for the missing sources, and k after them.
+const COLUMNS: usize = Table::SOURCES + 1;
 
 // Adds packet i, from 0, which starts at byte `from` of the packets, at its place; gives where it ends.
 fn place(
@@ -122,13 +128,126 @@ fn take_bit(
     }
 }
 
+// The first missing source from b on, or k.
+fn next_missing(s: Shape, b: usize) -> usize
+    requires { ⌜ (s .k ≤ maxK) × (b ≤ s .k) ⌝ }
+    ensures { λ r. ⌜ (b ≤ r) × (r ≤ s .k) × ((c : ℕ) → b ≤ c → c < r → mark (s .marks) c ≡ true) ⌝ }
+{
+    let next = b + u64::trailing_zeros(u64::MAX - (s.marks >> b)) as usize;
+    if next < s.k { next } else { s.k }
+}
+
+// The missing sources in order, then k; and how many they are.
+struct Missing {
+    columns: [usize; COLUMNS],
+    count: usize,
+}
+
+// Lists the missing sources.
+fn list_missing(s: Shape) -> Missing
+    requires { ⌜ s .k ≤ maxK ⌝ }
+    ensures { λ r. ⌜ Lists (s .k) (s .marks) (r .columns) (r .count) (s .k) ⌝ }
+{
+    let mut columns = [0usize; COLUMNS];
+    let mut count = 0;
+    let mut b = next_missing(s, 0);
+    columns[0] = b;
+    while b < s.k {
+        b = next_missing(s, b + 1);
+        count += 1;
+        columns[count] = b;
+    }
+    Missing { columns, count }
+}
+
+// The source that is bare in the row of parity a, or k or more: only missing ones are looked at.
+fn row_source(
+    s: Shape,
+    shifts: &[u8; Table::CELLS],
+    g: &[u64; Table::SOURCES],
+    columns: &[usize; COLUMNS],
+    count: usize,
+    a: usize,
+) -> usize
+    requires { ⌜ Within s (now shifts) × Fits (deskOf s (now shifts)) (at (now g)) × Lists (s .k) (s .marks) (now columns) count (s .k) × (a < s .m) ⌝ }
+    ensures { λ r. ⌜ r ≡ scan (deskOf s (now (shifts .entry))) (at (now (g .entry))) a (s .k) .1 ⌝ }
+{
+    let mut x = Low {
+        place: 0,
+        source: s.k,
+    };
+    let mut j = 0;
+    while j < count {
+        x = walk::lower(s, shifts, g, a, columns[j], x);
+        j += 1;
+    }
+    x.source
+}
+
+// A bare pair in row `from` or after it, from one parity at hand to the next; the parity is m where there is none.
+fn pair_from(
+    s: Shape,
+    shifts: &[u8; Table::CELLS],
+    g: &[u64; Table::SOURCES],
+    columns: &[usize; COLUMNS],
+    count: usize,
+    from: usize,
+) -> Pair
+    requires { ⌜ Within s (now shifts) × (s .marks / 2 ^ (s .k + s .m) ≡ 0) × Fits (deskOf s (now shifts)) (at (now g)) × Lists (s .k) (s .marks) (now columns) count (s .k) × (from ≤ s .m) ⌝ }
+    ensures { λ r. ⌜ (r .parity < s .m → Bare (deskOf s (now (shifts .entry))) (at (now (g .entry))) (r .parity) (r .source)) ⌝ }
+{
+    let k = s.k;
+    let mut next = k + from;
+    let mut rest = s.marks >> next;
+    while rest != 0 {
+        let skip = table::packets::lowest_present(rest);
+        let a = next + skip - k;
+        let b = row_source(s, shifts, g, columns, count, a);
+        if b < k {
+            return Pair {
+                parity: a,
+                source: b,
+            };
+        }
+        next += skip + 1;
+        rest = rest >> skip >> 1;
+    }
+    Pair {
+        parity: s.m,
+        source: 0,
+    }
+}
+
+// A bare pair, looked for from row `from` on, then from the first row; where both fail the walk's own search decides, and the parity is m where none is bare.
+fn some_pair(
+    s: Shape,
+    shifts: &[u8; Table::CELLS],
+    g: &[u64; Table::SOURCES],
+    columns: &[usize; COLUMNS],
+    count: usize,
+    from: usize,
+) -> Pair
+    requires { ⌜ Within s (now shifts) × (s .marks / 2 ^ (s .k + s .m) ≡ 0) × Fits (deskOf s (now shifts)) (at (now g)) × Lists (s .k) (s .marks) (now columns) count (s .k) × (from ≤ s .m) ⌝ }
+    ensures { λ r. ⌜ SomePair (deskOf s (now (shifts .entry))) (at (now (g .entry))) (r .parity) (r .source) ⌝ }
+{
+    let p = pair_from(s, shifts, g, columns, count, from);
+    if p.parity < s.m {
+        return p;
+    }
+    let q = pair_from(s, shifts, g, columns, count, 0);
+    if q.parity < s.m {
+        return q;
+    }
+    walk::next_pair(s, shifts, g)
+}
+
 // How many steps were made, and whether they finish all missing sources.
 pub struct DecodeAnswer {
     pub count: u64,
     pub whole: bool,
 }
 
-// Steps until no pair is bare.
+// Steps until no pair is bare, each looked for first after the row of the last.
 fn decode(
     s: Shape,
     shifts: &[u8; Table::CELLS],
@@ -138,10 +257,14 @@ fn decode(
     requires { ⌜ Within s (now shifts) × (s .marks / 2 ^ (s .k + s .m) ≡ 0) × ((c p : ℕ) → Gone (deskOf s (now shifts)) c → sourcesOf (deskOf s (now shifts)) (now sources) c p ≡ 0) ⌝ }
     ensures { λ r. ⌜ Decoded (deskOf s (now (shifts .entry))) (r .count) (r .whole) (now (sources .entry)) (now (rests .entry)) (now (sources .exit)) (now (rests .exit)) ⌝ }
 {
+    let missing = list_missing(s);
+    let columns = missing.columns;
+    let n = missing.count;
     let mut g = [0u64; Table::SOURCES];
     let mut count: u64 = 0;
+    let mut row = 0;
     loop {
-        let p = walk::next_pair(s, shifts, &g);
+        let p = some_pair(s, shifts, &g, &columns, n, row);
         let a = p.parity;
         let b = p.source;
         if s.m <= a {
@@ -152,6 +275,7 @@ fn decode(
         take_bit(s, shifts, a, b, here as usize, sources, rests);
         g[b] = here + 1;
         count += 1;
+        row = a + 1;
     }
 }
 

@@ -31,9 +31,9 @@ pub struct WalkAnswer {
 }
 
 // The lowest next bit of a parity so far: where it stands, and whose it is. The source is k where there is none yet, and above k where two share the place.
-struct Low {
-    place: u64,
-    source: usize,
+pub struct Low {
+    pub place: u64,
+    pub source: usize,
 }
 
 // A pair of a parity and a source, from 0; the parity is m where none is bare.
@@ -63,7 +63,7 @@ fn placed(k: usize, x: Low, place: u64, b: usize) -> Low
 }
 
 // The lowest next bit of parity a, with source b looked at too.
-fn lower(
+pub fn lower(
     s: Shape,
     shifts: &[u8; Table::CELLS],
     g: &[u64; Table::SOURCES],

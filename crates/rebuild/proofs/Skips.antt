@@ -1,0 +1,95 @@
+-- The marks below the lowest one that is not set are set; sources that are present change nothing in a scan; and how the list of the missing ones grows. Assumes nothing.
+use mathlib.Core.Path.{_≡_, refl, sym, ap, _∙_}
+use mathlib.Core.Bool.{true}
+use Prim.Native.Nat.{ℕ, zero, suc, _+_, _-_, _/_, _%_, _^_, _≤_, _<_}
+use native.Mathlib.Omega.{arith}
+use native.Mathlib.Nat.{pow-succ', div-one, add-zero, add-suc}
+use borrow.Author.Tests.{eq-eqb}
+use native.Mathlib.Decide.{ℕ-discrete}
+use mathlib.Core.List.{List}
+use lib.ListN.{length, set, length-set}
+use lib.Seq.{getD-set-same, getD-set-other}
+use lib.Dec.{eqb}
+use Rattle.bits.specs.Sums.{at}
+use Rattle.table.specs.Limits.{maxK}
+use Rattle.rebuild.specs.Data.{Lists}
+use lib.Pow.{shr-shr}
+use lib.Count.{trailingZeros, under}
+use Rattle.table.specs.Desk.{Desk, mark}
+use Rattle.table.proofs.MarkLaws.{half-mark}
+use Rattle.walk.specs.Compute.{lowerOf, scan}
+use Rattle.walk.proofs.Scan.{lower-present}
+
+-- n and y share no digit of w, and have them all: where n ends in zeros y ends in ones
+one-digit : (w n y : ℕ) → n + y + 1 ≡ 2 ^ suc w → (d : ℕ) → n % 2 ≡ d → (t : ℕ) → ((i : ℕ) → i < t → mark (y / 2) i ≡ true) → (i : ℕ) → i < under d t → mark y i ≡ true
+one-digit w n y e zero z t h zero l = rw div-one (eq-eqb (y % 2) 1 (omega (arith, pow-succ' 2 w)))
+one-digit w n y e zero z t h (suc i) l = half-mark y i ∙ h i (omega arith)
+one-digit w n y e (suc d) z t h i l = absurd (omega arith)
+
+pub ends-in-ones : (w n y : ℕ) → n + y + 1 ≡ 2 ^ w → (i : ℕ) → i < trailingZeros w n → mark y i ≡ true
+unfolding trailingZeros
+ends-in-ones zero n y e i l = absurd (omega arith)
+ends-in-ones (suc w) n y e i l =
+    one-digit w n y e (n % 2) refl (trailingZeros w (n / 2)) (ends-in-ones w (n / 2) (y / 2) (omega (arith, pow-succ' 2 w))) i l
+
+-- so with the marks from b on
+pub skipped-set : (marks b n : ℕ) → n + marks / 2 ^ b + 1 ≡ 2 ^ 64 → (c : ℕ) → b ≤ c → c < b + trailingZeros 64 n → mark marks c ≡ true
+skipped-set marks b n e c l h =
+    let f : b + (c - b) ≡ c = omega arith in
+    ap (mark marks) (sym f) ∙ ap (λ (x : ℕ). eqb (x % 2) 1) (sym (shr-shr marks b (c - b))) ∙ ends-in-ones 64 n (marks / 2 ^ b) e (c - b) (omega arith)
+
+module _ (D : Desk) (g : ℕ → ℕ) (a : ℕ) where
+  open Desk D using (present)
+
+  pub scan-skips : (n j : ℕ) → ((c : ℕ) → n ≤ c → c < n + j → present c ≡ true) → scan D g a n ≡ scan D g a (n + j)
+  unfolding scan
+  scan-skips n zero h = ap (scan D g a) (sym (add-zero n))
+  scan-skips n (suc j) h =
+      scan-skips n j (λ c l q. h c l (omega arith)) ∙ lower-present D g a (n + j) (scan D g a (n + j)) (h (n + j) (omega arith) (omega arith)) ∙ ap (scan D g a) (sym (add-suc n j))
+
+  pub scan-to : (n r : ℕ) → n ≤ r → ((c : ℕ) → n ≤ c → c < r → present c ≡ true) → scan D g a n ≡ scan D g a r
+  scan-to n r l h =
+      let e : n + (r - n) ≡ r = omega arith in
+      scan-skips n (r - n) (λ c q p. h c q (omega arith)) ∙ ap (scan D g a) e
+
+-- one more column
+module _ (k marks : ℕ) (columns : List ℕ) (n b : ℕ) (L : Lists k marks columns n b) where
+  pub lists-more : (r : ℕ) → b < k → k ≤ maxK → b + 1 ≤ r → ((c : ℕ) → b + 1 ≤ c → c < r → mark marks c ≡ true) → Lists k marks (set columns (n + 1) r) (n + 1) r
+  lists-more r l h lr f = record {
+    eight = length-set columns (n + 1) r ∙ L .eight;
+    inside = λ j q. elim (ℕ-discrete j n) [
+      | yes e ↦ omega (arith, ap (at columns) e, L .last, same j (omega arith))
+      | no ne ↦ omega (arith, same j (omega arith), L .inside j (omega arith))
+    ];
+    grow = λ j q. elim (ℕ-discrete j n) [
+      | yes e ↦ omega (arith, ap (at columns) e, L .last, same j (omega arith), new (j + 1) (omega arith))
+      | no ne ↦ omega (arith, same j (omega arith), same (j + 1) (omega arith), L .grow j (omega arith))
+    ];
+    first = λ c z q. L .first c z (omega (arith, same 0 (omega arith)));
+    between = λ j q. elim (ℕ-discrete j n) [
+      | yes e ↦ λ c u v. f c (omega (arith, ap (at columns) e, L .last, same j (omega arith))) (omega (arith, new (j + 1) (omega arith)))
+      | no ne ↦ λ c u v. L .between j (omega arith) c (omega (arith, same j (omega arith))) (omega (arith, same (j + 1) (omega arith)))
+    ];
+    last = new (n + 1) refl;
+    few = omega (arith, L .few);
+  }
+    where
+      same : (j : ℕ) → j ≤ n → at (set columns (n + 1) r) j ≡ at columns j
+      same j q = getD-set-other columns (n + 1) j r 0 (λ e. omega arith)
+
+      new : (j : ℕ) → j ≡ n + 1 → at (set columns (n + 1) r) j ≡ r
+      new j e = ap (at (set columns (n + 1) r)) e ∙ getD-set-same columns (n + 1) r 0 (omega (arith, L .eight, L .few))
+
+pub lists-none : (k marks : ℕ) (columns : List ℕ) (b : ℕ) → length columns ≡ maxK + 1 → ((c : ℕ) → 0 ≤ c → c < b → mark marks c ≡ true) → Lists k marks (set columns 0 b) 0 b
+lists-none k marks columns b e f = record {
+  eight = length-set columns 0 b ∙ e;
+  inside = λ j q. absurd (omega arith);
+  grow = λ j q. absurd (omega arith);
+  first = λ c z q. f c z (omega (arith, new));
+  between = λ j q. absurd (omega arith);
+  last = new;
+  few = omega arith;
+}
+  where
+    new : at (set columns 0 b) 0 ≡ b
+    new = getD-set-same columns 0 b 0 (omega (arith, e))
