@@ -139,7 +139,7 @@ fn next_missing(s: Shape, b: usize) -> usize
 
 // The missing sources in order, then k; and how many they are.
 struct Missing {
-    columns: [usize; COLUMNS],
+    columns: [u8; COLUMNS],
     count: usize,
 }
 
@@ -148,14 +148,14 @@ fn list_missing(s: Shape) -> Missing
     requires { ⌜ s .k ≤ maxK ⌝ }
     ensures { λ r. ⌜ Lists (s .k) (s .marks) (r .columns) (r .count) (s .k) ⌝ }
 {
-    let mut columns = [0usize; COLUMNS];
+    let mut columns = [0u8; COLUMNS];
     let mut count = 0;
     let mut b = next_missing(s, 0);
-    columns[0] = b;
+    columns[0] = b as u8;
     while b < s.k {
         b = next_missing(s, b + 1);
         count += 1;
-        columns[count] = b;
+        columns[count] = b as u8;
     }
     Missing { columns, count }
 }
@@ -165,7 +165,7 @@ fn row_source(
     s: Shape,
     shifts: &[u8; Table::CELLS],
     g: &[u64; Table::SOURCES],
-    columns: &[usize; COLUMNS],
+    columns: &[u8; COLUMNS],
     count: usize,
     a: usize,
 ) -> usize
@@ -178,7 +178,7 @@ fn row_source(
     };
     let mut j = 0;
     while j < count {
-        x = walk::lower(s, shifts, g, a, columns[j], x);
+        x = walk::lower(s, shifts, g, a, columns[j] as usize, x);
         j += 1;
     }
     x.source
@@ -189,7 +189,7 @@ fn pair_from(
     s: Shape,
     shifts: &[u8; Table::CELLS],
     g: &[u64; Table::SOURCES],
-    columns: &[usize; COLUMNS],
+    columns: &[u8; COLUMNS],
     count: usize,
     from: usize,
 ) -> Pair
@@ -223,7 +223,7 @@ fn some_pair(
     s: Shape,
     shifts: &[u8; Table::CELLS],
     g: &[u64; Table::SOURCES],
-    columns: &[usize; COLUMNS],
+    columns: &[u8; COLUMNS],
     count: usize,
     from: usize,
 ) -> Pair

@@ -18,6 +18,9 @@ abbrev μ-loop : tie.MeasureT-loop
 next-missing-requires : tie.Need-next-missing-requires Inv-loop μ-loop
 next-missing-requires c κs = search needs
 
+cast-columns : tie.Need-cast-columns Inv-loop μ-loop
+cast-columns c = omega (arith, c .next-missing .ensures .1, c .before .pre)
+
 array-write-columns : tie.Need-array-write-columns Inv-loop μ-loop
 array-write-columns c = search needs
 
@@ -36,8 +39,8 @@ next-missing-requires-2 c κs = search needs
 add-count : tie.Need-add-count Inv-loop μ-loop
 add-count c = search needs
 
-mul-columns : tie.Need-mul-columns Inv-loop μ-loop
-mul-columns c = search needs
+cast-columns-2 : tie.Need-cast-columns-2 Inv-loop μ-loop
+cast-columns-2 c = omega arith
 
 array-write-columns-2 : tie.Need-array-write-columns-2 Inv-loop μ-loop
 array-write-columns-2 c = search needs
@@ -66,12 +69,13 @@ list-missing-spec =
     Inv-loop
     μ-loop
     next-missing-requires
+    cast-columns
     array-write-columns
     loop-holds
     add-next-missing
     next-missing-requires-2
     add-count
-    mul-columns
+    cast-columns-2
     array-write-columns-2
     loop-less
     loop-again

@@ -23,11 +23,14 @@ loop-holds c =
     let s = c .args in
     (omega arith, scan-to (deskOf (s .s) (s .shifts .now)) (at (s .g .now)) (s .a) 0 (at (s .columns .now) 0) (omega arith) (c .pre .2 .first))
 
-mul-lower : tie.Need-mul-lower Inv-loop μ-loop
-mul-lower c = search needs
-
 element-copy-out-lower : tie.Need-element-copy-out-lower Inv-loop μ-loop
 element-copy-out-lower c = search needs
+
+cast-lower : tie.Need-cast-lower Inv-loop μ-loop
+cast-lower c =
+    let l = c .before .before in
+    let s = l .before in
+    omega (arith, s .pre .2 .inside (l .loop .j) (omega arith), s .pre .0 .k-high)
 
 lower-requires : tie.Need-lower-requires Inv-loop μ-loop
 lower-requires c κs =
@@ -69,8 +72,8 @@ row-source-spec =
     Inv-loop
     μ-loop
     loop-holds
-    mul-lower
     element-copy-out-lower
+    cast-lower
     lower-requires
     add-j
     loop-less
