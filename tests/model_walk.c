@@ -26,12 +26,13 @@ typedef struct {
     uint64_t parity, source;
 } pair;
 
-/* Lists all bare pairs, lowest parity first, then lowest source, and gives how many. */
-static uint64_t bare_pairs(const question *q, const uint64_t *progress, pair *pairs)
+/* Lists the bare pairs, lowest parity first, then lowest source, until there are `most` of them, and
+ * gives how many. */
+static uint64_t bare_pairs(const question *q, const uint64_t *progress, pair *pairs, uint64_t most)
 {
     uint64_t found = 0;
     for (uint64_t a = 1; a <= q->m; a++) {
-        for (uint64_t b = 1; b <= q->k; b++) {
+        for (uint64_t b = 1; b <= q->k && found < most; b++) {
             if (bare(q, progress, a, b)) {
                 pairs[found].parity = a;
                 pairs[found].source = b;
@@ -52,28 +53,29 @@ bool whole(const question *q, const walked *walk)
     return true;
 }
 
-static walked walk_in_order(const question *q, bool random_order)
+/* Each step takes one of the first `most` bare pairs, at random. */
+static walked walk_among(const question *q, uint64_t most)
 {
     walked walk = {0, {0}};
     pair pairs[SOURCES_MOST * PARITIES_MOST];
-    uint64_t found = bare_pairs(q, walk.progress, pairs);
+    uint64_t found = bare_pairs(q, walk.progress, pairs, most);
     while (found > 0) {
-        uint64_t chosen = random_order ? random_below(found) : 0;
+        uint64_t chosen = found > 1 ? random_below(found) : 0;
         walk.progress[pairs[chosen].source - 1]++;
         walk.count++;
-        found = bare_pairs(q, walk.progress, pairs);
+        found = bare_pairs(q, walk.progress, pairs, most);
     }
     return walk;
 }
 
 walked walk_lowest_first(const question *q)
 {
-    return walk_in_order(q, false);
+    return walk_among(q, 1);
 }
 
 walked walk_in_random_order(const question *q)
 {
-    return walk_in_order(q, true);
+    return walk_among(q, SOURCES_MOST * PARITIES_MOST);
 }
 
 answer model_walk(const question *q, uint8_t *output)
@@ -115,7 +117,7 @@ answer model_next_step(const question *q, uint8_t *output)
     }
     answer given = done();
     memcpy(&given.results[2], q->progress, sizeof q->progress);
-    if (bare_pairs(q, q->progress, pairs) > 0) {
+    if (bare_pairs(q, q->progress, pairs, 1) > 0) {
         given.results[0] = pairs[0].parity;
         given.results[1] = pairs[0].source;
         given.results[2 + pairs[0].source - 1]++;
