@@ -1,19 +1,21 @@
 -- Laws of a source that is shifted up, what stays in each byte's place first and then what crosses into the next one, and of bytes added from a place on.
 use mathlib.Core.Path.{_≡_, refl, sym, ap, _∙_}
 use mathlib.Core.Logic.{_≢_, ⊎-elim}
+use mathlib.Core.Bool.{cond}
 use mathlib.Core.List.{List}
 use Prim.Native.Nat.{ℕ, zero, suc, _+_, _-_, _*_, _/_, _%_, _^_, _≤_, _<_}
 use native.Mathlib.Nat.{mod-lt, mod-add-mod, add-mod-mod, lt-of-le-of-lt, le-refl, le-of-lt, div-add-mod', div-eq-of-lt, mul-div-mul-right}
 use native.Mathlib.Numerals.{add-one}
 use native.Mathlib.Omega.{arith}
-use lib.Dec.{lit<}
+use lib.Dec.{lit<, ltb}
+use borrow.Author.Tests.{lt-ltb, le-ltb}
 use lib.Bits.{bitXor, bitAnd}
 use lib.Pow.{pow-pos, pow-add, shl-lt, shl-exact, shr-le}
-use lib.ListN.{length, getD, set, take, replicate, length-set, length-take, length-replicate}
+use lib.ListN.{length, getD, set, take, drop, replicate, length-set, length-take, length-replicate}
 use lib.Seq.{getD-set-other, take-length}
 use Rattle.bits.specs.Bits.{bit, bitAt, num, Bytes, up}
-use Rattle.bits.proofs.BitLaws.{lt-or-ge, and-255, bit-beside, bit-zero-shl, bitAt-lt, bitAt-past, bitAt-take, bitAt-xor, bitAt-put, bytes-take, getD-zeros, zero-bits, num-take-suc, num-take-lt}
-use Rattle.bits.proofs.UpLaws.{up-same, up-high, up-up, up-none, bit-up}
+use Rattle.bits.proofs.BitLaws.{lt-or-ge, and-255, bit-beside, bit-zero-shl, bitAt-lt, bitAt-past, bitAt-take, bitAt-drop, bitAt-xor, bitAt-put, bytes-take, getD-zeros, zero-bits, num-take-suc, num-take-lt}
+use Rattle.bits.proofs.UpLaws.{up-same, up-from, up-high, up-up, up-none, bit-up}
 
 -- one byte of a list more, shifted up by e: the byte shifted within its place i + e / 8
 bit-grow : (xs : List ℕ) → Bytes xs → (i e p : ℕ) → i < length xs
@@ -176,3 +178,15 @@ copy-take t xs e n room h p = ⊎-elim
 pub copy-up : (t xs : List ℕ) (s e n : ℕ) → 8 * length xs + e ≤ 8 * n → ((p : ℕ) → bitAt t p ≡ up e (bitAt xs) p)
     → (p : ℕ) → up (8 * s) (bitAt (take n t)) p ≡ up (8 * s + e) (bitAt xs) p
 copy-up t xs s e n room h p = up-same (8 * s) (bitAt (take n t)) (up e (bitAt xs)) p (λ q _. copy-take t xs e n room h q) ∙ up-up (8 * s) e (bitAt xs) p
+
+-- n bytes from bit e on: they were shifted up to the next byte, and start there
+pub copy-down : (t xs : List ℕ) (e n : ℕ) → e + 8 * n ≤ 8 * length xs → ((p : ℕ) → bitAt t p ≡ up (8 - e % 8) (bitAt (take ((e + 7) / 8 + n - e / 8) (drop (e / 8) xs))) p)
+    → (q : ℕ) → bitAt (take n (take (n + 1 - 1) (drop 1 t))) q ≡ cond (ltb q (8 * n)) (bitAt xs (e + q)) 0
+copy-down t xs e n room h q = ⊎-elim
+    (λ l.
+    let j = 8 * 1 + q - (8 - e % 8) in
+    rw (lt-ltb q (8 * n) l)
+    (bitAt-take (take (n + 1 - 1) (drop 1 t)) n q l ∙ bitAt-take (drop 1 t) (n + 1 - 1) q (omega arith) ∙ bitAt-drop t 1 q ∙ h (8 * 1 + q)
+    ∙ up-from (8 - e % 8) _ (8 * 1 + q) (omega arith) ∙ bitAt-take (drop (e / 8) xs) ((e + 7) / 8 + n - e / 8) j (omega arith) ∙ bitAt-drop xs (e / 8) j ∙ ap (bitAt xs) (omega arith)))
+    (λ (l : 8 * n ≤ q). rw (le-ltb q (8 * n) l) (bitAt-past (take n (take (n + 1 - 1) (drop 1 t))) q (simp length-take (omega arith))))
+    (lt-or-ge q (8 * n))

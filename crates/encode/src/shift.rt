@@ -1,7 +1,9 @@
 // Shift-and-add: a source, shifted up, added into a parity.
 use table::Table;
 ghost use mathlib.Core.Path.{_≡_};
+ghost use mathlib.Core.Bool.{cond};
 ghost use Prim.Native.Nat.{ℕ, _+_, _*_, _%_, _≤_};
+ghost use lib.Dec.{ltb};
 ghost use lib.ListN.{length, take};
 ghost use Rattle.bits.specs.Bits.{bitAt, up};
 
@@ -13,6 +15,17 @@ pub fn shift_add(dst: &mut [u8], start: usize, src: &[u8], e: usize)
 {
     let copy = shifted(src, e);
     add_bytes(dst, start, &copy, (e + 7) / 8 + src.len());
+}
+
+// Adds n bytes, those from bit e of src on, into dst from byte `start` on: shifted up to the next byte, which is then the first.
+pub fn add_from(dst: &mut [u8], start: usize, src: &[u8], e: usize, n: usize)
+    requires { ⌜ (8 * n + 16 ≤ 512) × (e + 8 * n ≤ 512) ⌝ }
+    requires { ⌜ e + 8 * n ≤ 8 * length (now src) ⌝ }
+    requires { ⌜ start + n ≤ length (now dst) ⌝ }
+    ensures { λ _. ⌜ ((p : ℕ) → bitAt (now (dst .exit)) p ≡ (bitAt (now (dst .entry)) p + up (8 * start) (λ q. cond (ltb q (8 * n)) (bitAt (now (src .entry)) (e + q)) 0) p) % 2) ⌝ }
+{
+    let copy = shifted(&src[e / 8..(e + 7) / 8 + n], 8 - e % 8);
+    add_bytes(dst, start, &copy[1..n + 1], n);
 }
 
 // src, shifted up by e bits: what stays in a byte's place, and then what crosses into the next one.

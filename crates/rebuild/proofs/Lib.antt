@@ -12,3 +12,4 @@ pub mod StageLaws
 pub mod OneAnswer
 pub mod NoneMissing
 pub mod Skips
+pub mod LiftLaws

@@ -35,7 +35,7 @@ up-put s b p v e q z = elim (ℕ-discrete (e + p) q) [
   | no ne ↦ rw (up-same e (put s b p v b) (s b) q (λ x h. put-bit s b p v b x (λ f. ne (omega arith))), oneAt-other (e + p) q ne) (omega arith)
 ]
 
-sum-two : (r f g d : ℕ) → f ≡ g + d → (r + f) % 2 ≡ ((r + g) % 2 + d) % 2
+pub sum-two : (r f g d : ℕ) → f ≡ g + d → (r + f) % 2 ≡ ((r + g) % 2 + d) % 2
 sum-two r f g d e = rw (e, mod-add-mod) (ap (λ x. x % 2) (omega arith))
 
 module _ (D : Desk) where

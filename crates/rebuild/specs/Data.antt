@@ -6,7 +6,7 @@ use Prim.Native.Nat.{ℕ, _+_, _*_, _%_, _≤_, _<_}
 use lib.Dec.{ltb}
 use lib.ListN.{length, take}
 use Rattle.bits.specs.Sums.{at, oneAt}
-use Rattle.bits.specs.Bits.{bitAt, Tells}
+use Rattle.bits.specs.Bits.{bitAt, up, Tells}
 use Rattle.table.specs.Limits.{maxK, longest}
 use Rattle.table.specs.Desk.{Desk, mark}
 use Rattle.encode.specs.Code.{Bits, sumOf, sourcesOf}
@@ -28,6 +28,13 @@ pub record Lists (k marks : ℕ) (columns : List ℕ) (n b : ℕ) : Type 0 where
   pub between : (j : ℕ) → j < n → (c : ℕ) → at columns j + 1 ≤ c → c < at columns (j + 1) → mark marks c ≡ true
   pub last : at columns n ≡ b
   pub few : n ≤ b
+
+-- parity a is the only one at hand, and source b the only one missing
+pub record Only (k marks a b : ℕ) : Type 0 where
+  pub held : mark marks (k + a) ≡ true
+  pub one-parity : (c : ℕ) → mark marks (k + c) ≡ true → a ≡ c
+  pub gone : (b < k) × (mark marks b ≡ false)
+  pub one-source : (c : ℕ) → c < k → mark marks c ≡ false → b ≡ c
 
 -- the bits that a row of the remainders has room for: as many as the longest parity
 abbrev pub rowBits : ℕ
@@ -65,6 +72,11 @@ module _ (D : Desk) where
   pub record Took (a b g : ℕ) (sources rests sources′ rests′ : List ℕ) : Type 0 where
     pub source : sourcesOf D sources′ ≡ put (sourcesOf D sources) b g (rowOf rests a (shift a b + g))
     pub rows : RowsAdded (λ a′ q. rowOf rests a (shift a b + g) * oneAt (shift a′ b + g) q) rests rests′
+
+  -- the bits from source b's shift on in row a were added to source b, and source b then to row a, at that shift
+  pub record Lifted (a b : ℕ) (sources rests sources′ rests′ : List ℕ) : Type 0 where
+    pub source : (c p : ℕ) → p < 8 * bytes → sourcesOf D sources′ c p ≡ (sourcesOf D sources c p + oneAt b c * rowOf rests a (shift a b + p)) % 2
+    pub row : (c q : ℕ) → q < rowBits → rowOf rests′ c q ≡ (rowOf rests c q + oneAt a c * up (shift a b) (sourcesOf D sources′ b) q) % 2
 
   -- what is left of the parities r when the sources s are taken out
   abbrev pub left : Bits → Bits → Bits

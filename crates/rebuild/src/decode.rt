@@ -4,7 +4,7 @@ use table::Table;
 use walk::Low;
 use walk::Pair;
 ghost use mathlib.Core.Path.{_≡_};
-ghost use mathlib.Core.Bool.{Bool, true};
+ghost use mathlib.Core.Bool.{Bool, true, false};
 ghost use lib.ListN.{length};
 ghost use Prim.Native.Nat.{ℕ, _+_, _*_, _/_, _^_, _≤_, _<_};
 ghost use Rattle.bits.specs.Sums.{at, oneAt};
@@ -129,9 +129,9 @@ fn take_bit(
 }
 
 // The first missing source from b on, or k.
-fn next_missing(s: Shape, b: usize) -> usize
+pub fn next_missing(s: Shape, b: usize) -> usize
     requires { ⌜ (s .k ≤ maxK) × (b ≤ s .k) ⌝ }
-    ensures { λ r. ⌜ (b ≤ r) × (r ≤ s .k) × ((c : ℕ) → b ≤ c → c < r → mark (s .marks) c ≡ true) ⌝ }
+    ensures { λ r. ⌜ (b ≤ r) × (r ≤ s .k) × ((c : ℕ) → b ≤ c → c < r → mark (s .marks) c ≡ true) × (r < s .k → mark (s .marks) r ≡ false) ⌝ }
 {
     let next = b + u64::trailing_zeros(u64::MAX - (s.marks >> b)) as usize;
     if next < s.k { next } else { s.k }
@@ -279,6 +279,29 @@ fn decode(
     }
 }
 
+// Uncovers the missing sources: at once where one is missing and one parity at hand, else step by step.
+fn uncover(
+    s: Shape,
+    shifts: &[u8; Table::CELLS],
+    sources: &mut [u8; SOURCES],
+    rests: &mut [u8; ROWS],
+) -> DecodeAnswer
+    requires { ⌜ Within s (now shifts) × (s .marks / 2 ^ (s .k + s .m) ≡ 0) × ((c p : ℕ) → Gone (deskOf s (now shifts)) c → sourcesOf (deskOf s (now shifts)) (now sources) c p ≡ 0) ⌝ }
+    ensures { λ r. ⌜ Decoded (deskOf s (now (shifts .entry))) (r .count) (r .whole) (now (sources .entry)) (now (rests .entry)) (now (sources .exit)) (now (rests .exit)) ⌝ }
+{
+    let p = crate::lift::only_pair(s);
+    let a = p.parity;
+    let b = p.source;
+    if a < s.m {
+        crate::lift::lift(s, shifts, a, b, sources, rests);
+        return DecodeAnswer {
+            count: table::source_bits(s) as u64,
+            whole: true,
+        };
+    }
+    decode(s, shifts, sources, rests)
+}
+
 // Whether nothing is left in any row.
 fn all_clear(rests: &[u8; ROWS]) -> bool
     ensures { λ r. ⌜ Tells r (ClearFrom (now (rests .entry)) 0) ⌝ }
@@ -313,7 +336,7 @@ pub fn read_back(
     let mut rests = [0u8; ROWS];
     place_packets(s, shifts, packets, sources, &mut rests);
     add_rows(s, shifts, sources, &mut rests);
-    let d = decode(s, shifts, sources, &mut rests);
+    let d = uncover(s, shifts, sources, &mut rests);
     known(sources);
     bits::known(packets);
     let count = d.count;

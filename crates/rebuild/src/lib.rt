@@ -1,5 +1,6 @@
 // Rebuilding: the sources read back from any k packets.
 pub mod decode;
+pub mod lift;
 pub mod repair;
 
 use table::Number;

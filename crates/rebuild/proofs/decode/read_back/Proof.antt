@@ -21,8 +21,8 @@ add-rows-requires c κs =
     let s = c .before .before .before .before .before .before .before in
     (s .pre .0, s .pre .1, omega (arith, sources-fit (deskOf (s .args .s) (s .args .shifts .now)) (within-bounds (s .args .s) (s .args .shifts .now) (s .pre .0))))
 
-decode-requires : tie.Need-decode-requires
-decode-requires c κs =
+uncover-requires : tie.Need-uncover-requires
+uncover-requires c κs =
     let p = c .before .before .before .before .before .before in
     let s = p .before .before .before .before in
     let D = deskOf (s .args .s) (s .args .shifts .now) in
@@ -40,14 +40,14 @@ all-clear-requires c κs = search needs
 returns : tie.Need-returns
 returns c =
     let known = c .before .before .before in
-    let decode = known .before .before in
-    let rows = decode .before .before .before in
+    let uncover = known .before .before in
+    let rows = uncover .before .before .before in
     let p = rows .before .before .before .before in
     let s = p .before .before .before .before in
     let D = deskOf (s .args .s) (s .args .shifts .now) in
     let W = within-bounds (s .args .s) (s .args .shifts .now) (s .pre .0) in (
-      read-back D W (s .args .packets .now) (held-in (s .args .s .marks) (s .args .s .k) (s .args .s .m) (s .pre .1)) (c .before .before .known2 .ensures) (s .pre .2) (decode .decode .result .count) (decode .decode .result .whole) (c .all-clear .result) _ _ _ _ _
-          (p .place-packets .ensures) (rows .add-rows .ensures) (decode .decode .ensures) (c .all-clear .ensures) (omega (arith, known .known .ensures .1, sources-fit D W)) (known .known .ensures .0),
+      read-back D W (s .args .packets .now) (held-in (s .args .s .marks) (s .args .s .k) (s .args .s .m) (s .pre .1)) (c .before .before .known2 .ensures) (s .pre .2) (uncover .uncover .result .count) (uncover .uncover .result .whole) (c .all-clear .result) _ _ _ _ _
+          (p .place-packets .ensures) (rows .add-rows .ensures) (uncover .uncover .ensures) (c .all-clear .ensures) (omega (arith, known .known .ensures .1, sources-fit D W)) (known .known .ensures .0),
       known .known .ensures .1,
     )
 
@@ -57,7 +57,7 @@ read-back-spec =
     (tie.spec
     place-packets-requires
     add-rows-requires
-    decode-requires
+    uncover-requires
     known-requires
     known-requires-2
     all-clear-requires
