@@ -126,6 +126,12 @@ bit-one p q = ⊎-elim below (λ g. ⊎-elim above (here g) (lt-or-ge p q)) (lt-
         let e : q ≡ p + 0 = omega arith in
         ap (bit (1 * 2 ^ p)) e ∙ bit-shl 1 p 0 ∙ bit-low 1 ∙ sym (oneAt-same p q (omega arith))
 
+-- and so has a digit
+bit-digit : (v p q : ℕ) → v < 2 → bit (v * 2 ^ p) q ≡ v * oneAt p q
+bit-digit zero p q l = bit-zero-shl p q ∙ omega arith
+bit-digit (suc zero) p q l = bit-one p q ∙ omega arith
+bit-digit (suc (suc v)) p q l = absurd (omega arith)
+
 -- masks as code writes them
 pub and-one : (n : ℕ) → bitAnd n 1 ≡ n % 2
 and-one n = and-mask n 1
@@ -228,14 +234,14 @@ pub bitAt-put : (xs : List ℕ) (k v p : ℕ) → k < length xs → v < 2 ^ 8 �
     → bitAt (set xs k v) p ≡ (bitAt xs p + bit (v * 2 ^ (8 * k)) p) % 2
 bitAt-put xs k v p l h z = ap (λ (x : ℕ). bitAt (set xs k (bitXor x v)) p) (sym z) ∙ bitAt-xor xs k v p l h
 
--- the byte 1 << (p % 8), xored into byte p / 8
-pub bitAt-flip : (xs : List ℕ) (p : ℕ) → p < 8 * length xs → (q : ℕ)
-    → bitAt (set xs (p / 8) (bitXor (getD xs (p / 8) 0) (1 * 2 ^ (p % 8) % 2 ^ 8))) q ≡ (bitAt xs q + oneAt p q) % 2
-bitAt-flip xs p h q =
+-- the byte v << (p % 8), xored into byte p / 8, where v is 0 or 1
+pub bitAt-flip : (xs : List ℕ) (p v : ℕ) → p < 8 * length xs → v < 2 → (q : ℕ)
+    → bitAt (set xs (p / 8) (bitXor (getD xs (p / 8) 0) (v * 2 ^ (p % 8) % 2 ^ 8))) q ≡ (bitAt xs q + v * oneAt p q) % 2
+bitAt-flip xs p v h lv q =
     let e : p ≡ p % 8 + 8 * (p / 8) = omega arith in
-    rw (shl-exact 1 (p % 8) 8 (lit< tt) (omega arith))
-    (bitAt-xor xs (p / 8) (1 * 2 ^ (p % 8)) q (omega arith) (lt-of-lt-of-le (shl-lt 1 (p % 8) (lit< tt)) (pow-mono {i = 1 + p % 8} {j = 8} (omega arith)))
-    ∙ ap (λ (x : ℕ). (bitAt xs q + x) % 2) (ap (λ (x : ℕ). bit x q) (mul-assoc 1 (2 ^ (p % 8)) (2 ^ (8 * (p / 8))) ∙ ap (λ (x : ℕ). 1 * x) (sym (pow-add 2 (p % 8) (8 * (p / 8))) ∙ ap (λ (x : ℕ). 2 ^ x) (sym e))) ∙ bit-one p q))
+    rw (shl-exact 1 (p % 8) 8 lv (omega arith))
+    (bitAt-xor xs (p / 8) (v * 2 ^ (p % 8)) q (omega arith) (lt-of-lt-of-le (shl-lt 1 (p % 8) lv) (pow-mono {i = 1 + p % 8} {j = 8} (omega arith)))
+    ∙ ap (λ (x : ℕ). (bitAt xs q + x) % 2) (ap (λ (x : ℕ). bit x q) (mul-assoc v (2 ^ (p % 8)) (2 ^ (8 * (p / 8))) ∙ ap (λ (x : ℕ). v * x) (sym (pow-add 2 (p % 8) (8 * (p / 8))) ∙ ap (λ (x : ℕ). 2 ^ x) (sym e))) ∙ bit-digit v p q lv))
 
 -- ---- a list that is clear from a bit on, filled with 0, copied to, or summed
 

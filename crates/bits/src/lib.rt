@@ -14,12 +14,12 @@ pub fn bit_of(s: &[u8], p: usize) -> u8
     s[p / 8] >> (p % 8) & 1
 }
 
-// Turns bit p of s over.
-pub fn flip(s: &mut [u8], p: usize)
-    requires { ⌜ p < 8 * length (now s) ⌝ }
-    ensures { λ _. ⌜ ((q : ℕ) → bitAt (now (s .exit)) q ≡ (bitAt (now (s .entry)) q + oneAt p q) % 2) ⌝ }
+// Turns bit p of s over if v is 1, and leaves it if v is 0.
+pub fn flip(s: &mut [u8], p: usize, v: u8)
+    requires { ⌜ (p < 8 * length (now s)) × (v < 2) ⌝ }
+    ensures { λ _. ⌜ ((q : ℕ) → bitAt (now (s .exit)) q ≡ (bitAt (now (s .entry)) q + v * oneAt p q) % 2) ⌝ }
 {
-    s[p / 8] ^= 1u8 << (p % 8);
+    s[p / 8] ^= v << (p % 8);
 }
 
 // Copies src to the front of dst, and leaves the rest of dst.

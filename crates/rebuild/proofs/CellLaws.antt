@@ -58,12 +58,6 @@ pub row-clear : (rests : List ℕ) → ClearFrom rests 0 → (a q : ℕ) → row
 unfolding rowOf
 row-clear rests z a q = z (a * rowBits + q) zero-le
 
--- a bit is turned over in row n
-pub row-flip : (rests rests′ : List ℕ) (n e : ℕ) → e < rowBits → ((p : ℕ) → bitAt rests′ p ≡ (bitAt rests p + oneAt (n * rowBits + e) p) % 2)
-    → (a q : ℕ) → q < rowBits → rowOf rests′ a q ≡ (rowOf rests a q + oneAt n a * oneAt e q) % 2
-unfolding rowOf
-row-flip rests rests′ n e le h a q lq = h (a * rowBits + q) ∙ rw (one-cell rowBits n e a q le lq)
-
 -- what fits a row is added to row n
 pub row-add : (rests rests′ : List ℕ) (n : ℕ) (f : ℕ → ℕ) → ((p : ℕ) → rowBits ≤ p → f p ≡ 0) → ((p : ℕ) → bitAt rests′ p ≡ (bitAt rests p + up (n * rowBits) f p) % 2)
     → (a q : ℕ) → q < rowBits → rowOf rests′ a q ≡ (rowOf rests a q + oneAt n a * f q) % 2

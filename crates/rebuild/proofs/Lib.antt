@@ -4,6 +4,8 @@ pub mod SourceLaws
 pub mod Bounds
 pub mod Survivors
 pub mod Rows
+pub mod Known
+pub mod Search
 pub mod Steps
 pub mod EndLaws
 pub mod StrayLaws

@@ -11,72 +11,52 @@ use lib.Dec.{ltb}
 use borrow.Author.Tests.{lt-ltb, le-ltb}
 use lib.ListN.{length, take, drop, length-append}
 use Rattle.bits.specs.Sums.{oneAt}
-use Rattle.bits.specs.Bits.{bitAt, up, slice, part}
+use Rattle.bits.specs.Bits.{bitAt, up, slice}
 use Rattle.bits.proofs.SumLaws.{oneAt-same, oneAt-other, sum-but}
 use Rattle.bits.proofs.BitLaws.{tells-so}
-use Rattle.bits.proofs.UpLaws.{up-at, up-same, up-low, up-from, up-high, up-up}
+use Rattle.bits.proofs.UpLaws.{up-at, up-same}
 use Rattle.table.specs.Limits.{longest}
 use Rattle.table.specs.Desk.{Desk}
 use Rattle.encode.specs.Code.{Bits, sumOf, sourcesOf}
-use Rattle.encode.proofs.CodeLaws.{slice-bit, slice-past, part-taken, source-lt, source-past}
+use Rattle.encode.proofs.CodeLaws.{slice-bit, source-lt, source-past}
 use Rattle.walk.specs.Walk.{Order, bump, Gone, Held, Bare, Run, done, Whole}
 use Rattle.walk.specs.Read.{put, learn, readBy}
 use Rattle.walk.proofs.Runs.{snoc}
 use Rattle.walk.proofs.Ends.{whole-stuck}
 use Rattle.walk.proofs.ReadLaws.{put-same, put-bit, put-source, readBy-snoc}
 use Rattle.rebuild.specs.Data.{rowBits, rowOf, Lifted, left, Rests, Decoded}
-use Rattle.rebuild.proofs.CellLaws.{row-add}
+use Rattle.rebuild.proofs.Rows.{row-add-source}
 use Rattle.rebuild.proofs.SourceLaws.{source-add}
 use Rattle.rebuild.proofs.Bounds.{Bounded, shifted-fits}
-use Rattle.rebuild.proofs.Steps.{sum-two}
-
--- noughts, shifted up
-up-noughts : (e : ℕ) (f : ℕ → ℕ) (q : ℕ) → ((p : ℕ) → f p ≡ 0) → up e f q ≡ 0
-up-noughts e f q z = elim (decLt q e) [
-  | yes l ↦ up-low e f q l
-  | no l ↦ up-from e f q (omega arith) ∙ z _
-]
+use Rattle.rebuild.proofs.Known.{up-noughts, sum-two}
 
 module _ (D : Desk) where
   open Desk D using (k, m, bits, bytes, shift, present)
-
-  -- what was added to the source, which fits it, and to the row, which fits that
-  lifted-bits : Bounded D → (a b : ℕ) → a < m → b < k → (sources rests sources′ rests′ : List ℕ)
-      → ((p : ℕ) → bitAt sources′ p ≡ (bitAt sources p + up (8 * (b * bytes)) (λ q. cond (ltb q (8 * bytes)) (bitAt (slice rests (a * longest) longest) (shift a b + q)) 0) p) % 2)
-      → ((p : ℕ) → bitAt rests′ p ≡ (bitAt rests p + up (8 * (a * longest) + shift a b) (bitAt (part sources′ bytes b)) p) % 2)
-      → Lifted D a b sources rests sources′ rests′
-  unfolding sourcesOf rowOf
-  lifted-bits W a b la lb sources rests sources′ rests′ from to = record {
-    source = λ c p l.
-        source-add D sources sources′ b cut (λ q h. rw (le-ltb q (8 * bytes) h)) (λ q. from q ∙ ap (λ x. (bitAt sources q + up x cut q) % 2) (omega arith)) c p l
-        ∙ ap (λ x. (sourcesOf D sources c p + oneAt b c * x) % 2) (rw (lt-ltb p (8 * bytes) l) (slice-bit rests (a * longest) longest (shift a b + p) (omega (arith, fits)) ∙ ap (bitAt rests) (omega arith)));
-    row = row-add rests rests′ a (up (shift a b) x) (λ q h. up-high (shift a b) x (8 * bytes) q (λ p l. slice-past sources′ (b * bytes) bytes p l) (omega (arith, fits)))
-        (λ q. to q ∙ ap (λ v. (bitAt rests q + v) % 2) (sym (up-up (8 * (a * longest)) (shift a b) x q)) ∙ ap (λ v. (bitAt rests q + up v (up (shift a b) x) q) % 2) (omega arith));
-  }
-    where
-      fits : shift a b + 8 * bytes ≤ 8 * longest
-      fits = omega (arith, shifted-fits D W a b la lb, W .full)
-
-      cut : ℕ → ℕ
-      cut q = cond (ltb q (8 * bytes)) (bitAt (slice rests (a * longest) longest) (shift a b + q)) 0
-
-      x : ℕ → ℕ
-      x = bitAt (part sources′ bytes b)
 
   -- n bytes were added to the source, from bit e of the row on, and then to the row, from bit e on
   pub lifted : Bounded D → (a b n e : ℕ) → a < m → b < k → n ≡ bytes → e ≡ shift a b → (sources rests sources′ rests′ : List ℕ)
       → ((p : ℕ) → bitAt sources′ p ≡ (bitAt sources p + up (8 * (b * n)) (λ q. cond (ltb q (8 * n)) (bitAt (take (a * longest + longest - a * longest) (drop (a * longest) rests)) (e + q)) 0) p) % 2)
       → ((p : ℕ) → bitAt rests′ p ≡ (bitAt rests p + up (8 * (a * longest) + e) (bitAt (take (b * n + n - b * n) (drop (b * n) sources′))) p) % 2)
       → Lifted D a b sources rests sources′ rests′
-  lifted W a b n e la lb en ee sources rests sources′ rests′ from to = lifted-bits W a b la lb sources rests sources′ rests′
-      (λ p. from p ∙ ap (λ z. added z n e p) whole ∙ ap₂ (λ n′ e′. added longest n′ e′ p) en ee)
-      (λ p. to p ∙ ap (λ x. (bitAt rests p + up (8 * (a * longest) + e) (bitAt x) p) % 2) (part-taken sources′ n b) ∙ ap₂ (λ n′ e′. (bitAt rests p + up (8 * (a * longest) + e′) (bitAt (part sources′ n′ b)) p) % 2) en ee)
+  unfolding rowOf
+  lifted W a b n e la lb en ee sources rests sources′ rests′ from to = record {
+    source = λ c p l.
+        source-add D sources sources′ b cut (λ q h. rw (le-ltb q (8 * bytes) h)) added c p l
+        ∙ ap (λ x. (sourcesOf D sources c p + oneAt b c * x) % 2) (rw (lt-ltb p (8 * bytes) l) (slice-bit rests (a * longest) longest (shift a b + p) (omega (arith, shifted-fits D W a b la lb, W .full)) ∙ ap (bitAt rests) (omega arith)));
+    row = row-add-source D W a b n e la lb en ee sources′ rests rests′ to;
+  }
     where
+      cut : ℕ → ℕ
+      cut q = cond (ltb q (8 * bytes)) (bitAt (slice rests (a * longest) longest) (shift a b + q)) 0
+
       whole : a * longest + longest - a * longest ≡ longest
       whole = omega arith
 
-      added : ℕ → ℕ → ℕ → ℕ → ℕ
-      added z n′ e′ p = (bitAt sources p + up (8 * (b * n′)) (λ q. cond (ltb q (8 * n′)) (bitAt (take z (drop (a * longest) rests)) (e′ + q)) 0) p) % 2
+      sums : ℕ → ℕ → ℕ → ℕ → ℕ
+      sums z n′ e′ p = (bitAt sources p + up (8 * (b * n′)) (λ q. cond (ltb q (8 * n′)) (bitAt (take z (drop (a * longest) rests)) (e′ + q)) 0) p) % 2
+
+      added : (p : ℕ) → bitAt sources′ p ≡ (bitAt sources p + up (b * (8 * bytes)) cut p) % 2
+      added p = from p ∙ ap (λ z. sums z n e p) whole ∙ ap₂ (λ n′ e′. sums longest n′ e′ p) en ee ∙ ap (λ x. (bitAt sources p + up x cut p) % 2) (omega arith)
 
   -- a source that was noughts becomes known: it is taken out of each parity at that parity's own shift
   pub left-source : (r s t : Bits) (b : ℕ) → b < k → ((p : ℕ) → s b p ≡ 0) → ((c p : ℕ) → b ≢ c → t c p ≡ s c p) → (a q : ℕ) → left D r t a q ≡ (left D r s a q + up (shift a b) (t b) q) % 2

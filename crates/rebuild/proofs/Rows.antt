@@ -9,7 +9,9 @@ use native.Mathlib.Decide.{ℕ-discrete, decLt}
 use lib.Dec.{ltb}
 use borrow.Author.Tests.{lt-ltb, le-ltb}
 use Rattle.bits.specs.Sums.{oneAt}
-use Rattle.bits.specs.Bits.{bitAt, up, slice}
+use lib.ListN.{take, drop}
+use Rattle.bits.specs.Bits.{bitAt, up, slice, part}
+use Rattle.bits.proofs.UpLaws.{up-high, up-up}
 use Rattle.bits.proofs.SumLaws.{oneAt-same, oneAt-other}
 use Rattle.bits.proofs.BitLaws.{bitAt-lt}
 use Rattle.table.specs.Desk.{Desk, mark, packetBytes, placeOf}
@@ -18,13 +20,13 @@ use Rattle.table.specs.declared.Shape.{Shape}
 use Rattle.table.proofs.PacketLaws.{place-skip, next-in, next-marked, next-skips}
 use Rattle.table.specs.Limits.{longest}
 use Rattle.encode.specs.Code.{Bits, sumOf, sourcesOf}
-use Rattle.encode.proofs.CodeLaws.{source-lt, source-past, sum-past}
+use Rattle.encode.proofs.CodeLaws.{slice-past, part-taken, source-lt, source-past, sum-past}
 use Rattle.rebuild.specs.Promise.{came}
 use Rattle.rebuild.specs.Data.{rowBits, rowOf, cameSource, cameParity, Put, Placed, RowsAdded}
 use Rattle.rebuild.proofs.CellLaws.{row-lt, row-add}
 use Rattle.rebuild.proofs.SourceLaws.{source-at, source-add}
 use Rattle.rebuild.proofs.Survivors.{place-room}
-use Rattle.rebuild.proofs.Bounds.{Bounded, parity-bits-fit}
+use Rattle.rebuild.proofs.Bounds.{Bounded, parity-bits-fit, shifted-fits}
 use Rattle.rebuild.proofs.AtHand.{below, added-none, added-more, added-all}
 
 -- what is added at one place only is the same by either place's bits
@@ -52,6 +54,19 @@ row-add-sum D W x rests rests′ n ln h =
     let e : 8 * (n * longest) ≡ n * rowBits = omega arith in
     row-add rests rests′ n (sumOf D (sourcesOf D x) n) (λ p l. sum-past D (sourcesOf D x) (λ c q _ lq. source-past D x c q (omega (arith, W .full))) n p ln (omega (arith, parity-bits-fit D W n)))
     (λ p. h p ∙ ap (λ v. (bitAt rests p + up v (sumOf D (sourcesOf D x) n) p) % 2) e)
+
+-- so does a source, shifted up by its entry e of row n, w its bytes
+pub row-add-source : (D : Desk) → Bounded D → (n b w e : ℕ) → n < D .m → b < D .k → w ≡ D .bytes → e ≡ D .shift n b → (x rests rests′ : List ℕ)
+    → ((p : ℕ) → bitAt rests′ p ≡ (bitAt rests p + up (8 * (n * longest) + e) (bitAt (take (b * w + w - b * w) (drop (b * w) x))) p) % 2)
+    → (a q : ℕ) → q < rowBits → rowOf rests′ a q ≡ (rowOf rests a q + oneAt n a * up (D .shift n b) (sourcesOf D x b) q) % 2
+unfolding sourcesOf
+row-add-source D W n b w e ln lb ew ee x rests rests′ h =
+    row-add rests rests′ n (up (D .shift n b) f) (λ q l. up-high (D .shift n b) f (8 * D .bytes) q (λ p z. slice-past x (b * D .bytes) (D .bytes) p z) (omega (arith, shifted-fits D W n b ln lb, W .full)))
+    (λ p. h p ∙ ap (λ y. (bitAt rests p + up (8 * (n * longest) + e) (bitAt y) p) % 2) (part-taken x w b) ∙ ap₂ (λ w′ e′. (bitAt rests p + up (8 * (n * longest) + e′) (bitAt (part x w′ b)) p) % 2) ew ee
+    ∙ ap (λ v. (bitAt rests p + v) % 2) (sym (up-up (8 * (n * longest)) (D .shift n b) f p)) ∙ ap (λ v. (bitAt rests p + up v (up (D .shift n b) f) p) % 2) (omega arith))
+  where
+    f : ℕ → ℕ
+    f = bitAt (part x (D .bytes) b)
 
 -- ---- one packet at its place
 

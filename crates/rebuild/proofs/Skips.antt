@@ -1,9 +1,9 @@
--- The marks below the lowest one that is not set are set; sources that are present change nothing in a scan; and how the list of the missing ones grows. Assumes nothing.
+-- The marks below the lowest one that is not set are set; the only pair; and how the list of the missing sources grows. Assumes nothing.
 use mathlib.Core.Path.{_≡_, refl, sym, ap, _∙_}
 use mathlib.Core.Bool.{true, false, true≢false}
 use Prim.Native.Nat.{ℕ, zero, suc, _+_, _-_, _/_, _%_, _^_, _≤_, _<_}
 use native.Mathlib.Omega.{arith}
-use native.Mathlib.Nat.{pow-succ', div-one, add-zero, add-suc}
+use native.Mathlib.Nat.{pow-succ', div-one}
 use borrow.Author.Tests.{eq-eqb, ne-eqb}
 use native.Mathlib.Decide.{ℕ-discrete, decLt}
 use mathlib.Core.List.{List}
@@ -15,11 +15,9 @@ use Rattle.table.specs.Limits.{maxK}
 use Rattle.rebuild.specs.Data.{Lists, Only}
 use lib.Pow.{shr-shr}
 use lib.Count.{trailingZeros, under}
-use Rattle.table.specs.Desk.{Desk, mark}
+use Rattle.table.specs.Desk.{mark}
 use Rattle.table.specs.Table.{LowestMark}
 use Rattle.table.proofs.MarkLaws.{half-mark, no-mark-above}
-use Rattle.walk.specs.Compute.{lowerOf, scan}
-use Rattle.walk.proofs.Scan.{lower-present}
 
 -- n and y share no digit of w, and have them all: where n ends in zeros y ends in ones
 one-digit : (w n y : ℕ) → n + y + 1 ≡ 2 ^ suc w → (d : ℕ) → n % 2 ≡ d → (t : ℕ) → ((i : ℕ) → i < t → mark (y / 2) i ≡ true) → (i : ℕ) → i < under d t → mark y i ≡ true
@@ -81,28 +79,18 @@ only k marks a b r low z before lb clear e after = record {
   ];
 }
 
-module _ (D : Desk) (g : ℕ → ℕ) (a : ℕ) where
-  open Desk D using (present)
-
-  pub scan-skips : (n j : ℕ) → ((c : ℕ) → n ≤ c → c < n + j → present c ≡ true) → scan D g a n ≡ scan D g a (n + j)
-  unfolding scan
-  scan-skips n zero h = ap (scan D g a) (sym (add-zero n))
-  scan-skips n (suc j) h =
-      scan-skips n j (λ c l q. h c l (omega arith)) ∙ lower-present D g a (n + j) (scan D g a (n + j)) (h (n + j) (omega arith) (omega arith)) ∙ ap (scan D g a) (sym (add-suc n j))
-
-  pub scan-to : (n r : ℕ) → n ≤ r → ((c : ℕ) → n ≤ c → c < r → present c ≡ true) → scan D g a n ≡ scan D g a r
-  scan-to n r l h =
-      let e : n + (r - n) ≡ r = omega arith in
-      scan-skips n (r - n) (λ c q p. h c q (omega arith)) ∙ ap (scan D g a) e
-
 -- one more column
 module _ (k marks : ℕ) (columns : List ℕ) (n b : ℕ) (L : Lists k marks columns n b) where
-  pub lists-more : (r : ℕ) → b < k → k ≤ maxK → b + 1 ≤ r → ((c : ℕ) → b + 1 ≤ c → c < r → mark marks c ≡ true) → Lists k marks (set columns (n + 1) r) (n + 1) r
-  lists-more r l h lr f = record {
+  pub lists-more : (r : ℕ) → b < k → mark marks b ≡ false → k ≤ maxK → b + 1 ≤ r → ((c : ℕ) → b + 1 ≤ c → c < r → mark marks c ≡ true) → Lists k marks (set columns (n + 1) r) (n + 1) r
+  lists-more r l clear h lr f = record {
     eight = length-set columns (n + 1) r ∙ L .eight;
     inside = λ j q. elim (ℕ-discrete j n) [
       | yes e ↦ omega (arith, ap (at columns) e, L .last, same j (omega arith))
       | no ne ↦ omega (arith, same j (omega arith), L .inside j (omega arith))
+    ];
+    gone = λ j q. elim (ℕ-discrete j n) [
+      | yes e ↦ ap (mark marks) (same j (omega arith) ∙ ap (at columns) e ∙ L .last) ∙ clear
+      | no ne ↦ ap (mark marks) (same j (omega arith)) ∙ L .gone j (omega arith)
     ];
     grow = λ j q. elim (ℕ-discrete j n) [
       | yes e ↦ omega (arith, ap (at columns) e, L .last, same j (omega arith), new (j + 1) (omega arith))
@@ -127,6 +115,7 @@ pub lists-none : (k marks : ℕ) (columns : List ℕ) (b : ℕ) → length colum
 lists-none k marks columns b e f = record {
   eight = length-set columns 0 b ∙ e;
   inside = λ j q. absurd (omega arith);
+  gone = λ j q. absurd (omega arith);
   grow = λ j q. absurd (omega arith);
   first = λ c z q. f c z (omega (arith, new));
   between = λ j q. absurd (omega arith);

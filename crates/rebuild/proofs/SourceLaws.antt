@@ -17,16 +17,6 @@ use Rattle.walk.specs.Read.{put, Source}
 use Rattle.walk.proofs.ReadLaws.{put-same, put-bit, put-source}
 use Rattle.rebuild.proofs.CellLaws.{one-cell, up-cell}
 
--- a nought that stays
-pub put-nought : (s : Bits) (b p : ℕ) → s b p ≡ 0 → put s b p 0 ≡ s
-put-nought s b p z = fun-ext λ c. fun-ext λ q. elim (ℕ-discrete b c) [
-  | no ne ↦ put-source s b p 0 c q ne
-  | yes e ↦ elim (ℕ-discrete p q) [
-    | no nf ↦ put-bit s b p 0 c q nf
-    | yes f ↦ put-same s b p 0 c q e f ∙ sym (rw (← e, ← f) z)
-  ]
-]
-
 module _ (D : Desk) where
   open Desk D using (k, bits, bytes)
 
@@ -37,19 +27,19 @@ module _ (D : Desk) where
   pub sources-are : bits ≡ 8 * bytes → (x : List ℕ) → Source D (sourcesOf D x)
   sources-are e x = record { bit = source-lt D x; short = λ c p l. source-past D x c p (omega arith) }
 
-  -- a bit that was nought is turned over
-  pub source-put : (x x′ : List ℕ) (b g : ℕ) → g < 8 * bytes → sourcesOf D x b g ≡ 0 → ((p : ℕ) → bitAt x′ p ≡ (bitAt x p + oneAt (b * (8 * bytes) + g) p) % 2) → sourcesOf D x′ ≡ put (sourcesOf D x) b g 1
-  source-put x x′ b g lg z h = fun-ext λ c. fun-ext λ p. elim (decLt p (8 * bytes)) [
-    | no l ↦ source-past D x′ c p (omega arith) ∙ sym (put-bit (sourcesOf D x) b g 1 c p (omega arith) ∙ source-past D x c p (omega arith))
+  -- a bit that was nought becomes v
+  pub source-put : (x x′ : List ℕ) (b g v : ℕ) → g < 8 * bytes → v < 2 → sourcesOf D x b g ≡ 0 → ((p : ℕ) → bitAt x′ p ≡ (bitAt x p + v * oneAt (b * (8 * bytes) + g) p) % 2) → sourcesOf D x′ ≡ put (sourcesOf D x) b g v
+  source-put x x′ b g v lg lv z h = fun-ext λ c. fun-ext λ p. elim (decLt p (8 * bytes)) [
+    | no l ↦ source-past D x′ c p (omega arith) ∙ sym (put-bit (sourcesOf D x) b g v c p (omega arith) ∙ source-past D x c p (omega arith))
     | yes l ↦ source-at x′ c p l ∙ h (c * (8 * bytes) + p) ∙ rw (one-cell (8 * bytes) b g c p lg l, ← source-at x c p l) (here c p)
   ]
     where
-      here : (c p : ℕ) → (sourcesOf D x c p + oneAt b c * oneAt g p) % 2 ≡ put (sourcesOf D x) b g 1 c p
+      here : (c p : ℕ) → (sourcesOf D x c p + v * (oneAt b c * oneAt g p)) % 2 ≡ put (sourcesOf D x) b g v c p
       here c p = elim (ℕ-discrete b c) [
-        | no ne ↦ rw (put-source (sourcesOf D x) b g 1 c p ne, oneAt-other b c ne) (omega (arith, source-lt D x c p))
+        | no ne ↦ rw (put-source (sourcesOf D x) b g v c p ne, oneAt-other b c ne) (omega (arith, source-lt D x c p))
         | yes e ↦ elim (ℕ-discrete g p) [
-          | no nf ↦ rw (put-bit (sourcesOf D x) b g 1 c p nf, oneAt-other g p nf) (omega (arith, source-lt D x c p))
-          | yes f ↦ rw (put-same (sourcesOf D x) b g 1 c p e f, oneAt-same b c e, oneAt-same g p f, ← e, ← f, z)
+          | no nf ↦ rw (put-bit (sourcesOf D x) b g v c p nf, oneAt-other g p nf) (omega (arith, source-lt D x c p))
+          | yes f ↦ rw (put-same (sourcesOf D x) b g v c p e f, oneAt-same b c e, oneAt-same g p f, ← e, ← f, z) (omega arith)
         ]
       ]
 

@@ -1,5 +1,6 @@
 -- The data of a decoding: the sources known so far, and what is left of each parity at hand, as bits in lists of bytes.
 use mathlib.Core.Path.{_≡_}
+use mathlib.Core.Logic.{_≢_}
 use mathlib.Core.Bool.{Bool, true, false, cond}
 use mathlib.Core.List.{List}
 use Prim.Native.Nat.{ℕ, _+_, _*_, _%_, _≤_, _<_}
@@ -10,7 +11,7 @@ use Rattle.bits.specs.Bits.{bitAt, up, Tells}
 use Rattle.table.specs.Limits.{maxK, longest}
 use Rattle.table.specs.Desk.{Desk, mark}
 use Rattle.encode.specs.Code.{Bits, sumOf, sourcesOf}
-use Rattle.walk.specs.Walk.{Gone, Bare, Stuck, Whole}
+use Rattle.walk.specs.Walk.{Gone, Free, Bare, Stuck, Whole}
 use Rattle.walk.specs.Read.{put, readBy}
 use Rattle.rebuild.specs.Promise.{Ended, came, EncodesTo}
 
@@ -23,6 +24,7 @@ pub record SomePair (D : Desk) (g : ℕ → ℕ) (a b : ℕ) : Type 0 where
 pub record Lists (k marks : ℕ) (columns : List ℕ) (n b : ℕ) : Type 0 where
   pub eight : length columns ≡ maxK + 1
   pub inside : (j : ℕ) → j < n → at columns j < k
+  pub gone : (j : ℕ) → j < n → mark marks (at columns j) ≡ false
   pub grow : (j : ℕ) → j < n → at columns j + 1 ≤ at columns (j + 1)
   pub first : (c : ℕ) → 0 ≤ c → c < at columns 0 → mark marks c ≡ true
   pub between : (j : ℕ) → j < n → (c : ℕ) → at columns j + 1 ≤ c → c < at columns (j + 1) → mark marks c ≡ true
@@ -68,10 +70,27 @@ module _ (D : Desk) where
   abbrev pub RowsAdded : Bits → List ℕ → List ℕ → Type 0
   RowsAdded h rests rests′ = (a q : ℕ) → q < rowBits → rowOf rests′ a q ≡ (rowOf rests a q + cond (present (k + a)) (h a q) 0) % 2
 
-  -- the bit in row a where bit g of source b stands became that bit, and was taken out of the row of each parity at hand, at that parity's own shift
-  pub record Took (a b g : ℕ) (sources rests sources′ rests′ : List ℕ) : Type 0 where
-    pub source : sourcesOf D sources′ ≡ put (sourcesOf D sources) b g (rowOf rests a (shift a b + g))
-    pub rows : RowsAdded (λ a′ q. rowOf rests a (shift a b + g) * oneAt (shift a′ b + g) q) rests rests′
+  -- of the sources s the missing ones, noughts for the others
+  unfoldable pub missing : Bits → Bits
+  missing s c p = cond (present c) 0 (s c p)
+
+  -- bit q of what is left of parity a, with the missing sources taken out of its row too
+  abbrev pub leftBit : List ℕ → List ℕ → Bits
+  leftBit sources rests a q = (rowOf rests a q + sumOf D (missing (sourcesOf D sources)) a q) % 2
+
+  -- bit g of source b became what is left where it stands in parity a
+  abbrev pub Took : ℕ → ℕ → ℕ → List ℕ → List ℕ → List ℕ → Type 0
+  Took a b g sources rests sources′ = sourcesOf D sources′ ≡ put (sourcesOf D sources) b g (leftBit sources rests a (shift a b + g))
+
+  module _ (g : ℕ → ℕ) (a : ℕ) where
+    -- in parity a the next bit of source b stands lower than that of every other missing and unfinished source
+    abbrev pub Leads : ℕ → Type 0
+    Leads b = Free D g b × ((c : ℕ) → b ≢ c → Free D g c → shift a b + g b < shift a c + g c)
+
+    -- among the sources below n no next bit stands below `low`, and that of `source`, unless it is k, stands there alone
+    pub record Leading (n low source : ℕ) : Type 0 where
+      pub under : (c : ℕ) → c < n → Free D g c → low ≤ shift a c + g c
+      pub leads : source < k → Free D g source × (shift a source + g source ≡ low) × ((c : ℕ) → c < n → source ≢ c → Free D g c → low < shift a c + g c)
 
   -- the bits from source b's shift on in row a were added to source b, and source b then to row a, at that shift
   pub record Lifted (a b : ℕ) (sources rests sources′ rests′ : List ℕ) : Type 0 where

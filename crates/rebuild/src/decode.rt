@@ -7,15 +7,14 @@ ghost use mathlib.Core.Path.{_≡_};
 ghost use mathlib.Core.Bool.{Bool, true, false};
 ghost use lib.ListN.{length};
 ghost use Prim.Native.Nat.{ℕ, _+_, _*_, _/_, _^_, _≤_, _<_};
-ghost use Rattle.bits.specs.Sums.{at, oneAt};
-ghost use Rattle.bits.specs.Bits.{bitAt, Bytes, ClearFrom, Tells, slice};
+ghost use Rattle.bits.specs.Sums.{at};
+ghost use Rattle.bits.specs.Bits.{bitAt, up, Bytes, ClearFrom, Tells, slice};
 ghost use Rattle.table.specs.Limits.{maxK, maxLength};
 ghost use Rattle.table.specs.Desk.{mark, sourceBits, packetBytes, placeOf};
 ghost use Rattle.table.specs.Table.{Within, deskOf};
 ghost use Rattle.encode.specs.Code.{sumOf, sourcesOf};
 ghost use Rattle.walk.specs.Walk.{Gone, Bare, Fits};
-ghost use Rattle.walk.specs.Compute.{scan};
-ghost use Rattle.rebuild.specs.Data.{SomePair, Lists, Put, Placed, RowsAdded, Took, Decoded, ReadBack};
+ghost use Rattle.rebuild.specs.Data.{SomePair, Lists, rowBits, Put, Placed, RowsAdded, missing, leftBit, Took, Leading, Leads, Decoded, ReadBack};
 
 // Room for all sources, one after another.
 pub const SOURCES: usize = Table::SOURCES * Table::MAX_LENGTH as usize;
@@ -90,44 +89,6 @@ fn add_rows(s: Shape, shifts: &[u8; Table::CELLS], sources: &[u8], rests: &mut [
     }
 }
 
-// Turns bit g of source b over in the row of each parity at hand, at that parity's own shift.
-fn turn_rows(s: Shape, shifts: &[u8; Table::CELLS], b: usize, g: usize, rests: &mut [u8; ROWS])
-    requires { ⌜ Within s (now shifts) × (s .marks / 2 ^ (s .k + s .m) ≡ 0) × (b < s .k) × (g < sourceBits (s .length)) ⌝ }
-    ensures { λ _. ⌜ RowsAdded (deskOf s (now (shifts .entry))) (λ a q. oneAt (deskOf s (now (shifts .entry)) .shift a b + g) q) (now (rests .entry)) (now (rests .exit)) ⌝ }
-{
-    let k = s.k;
-    let mut next = k;
-    let mut rest = s.marks >> k;
-    while rest != 0 {
-        let skip = table::packets::lowest_present(rest);
-        let a = next + skip - k;
-        let e = table::shift_of(s, shifts, a, b);
-        bits::flip(rests, a * ROW_BITS + (e + g));
-        next += skip + 1;
-        rest = rest >> skip >> 1;
-    }
-}
-
-// Reads bit g of source b in the row of parity a; a one becomes known, and is taken out of every row at hand.
-fn take_bit(
-    s: Shape,
-    shifts: &[u8; Table::CELLS],
-    a: usize,
-    b: usize,
-    g: usize,
-    sources: &mut [u8; SOURCES],
-    rests: &mut [u8; ROWS],
-)
-    requires { ⌜ Within s (now shifts) × (s .marks / 2 ^ (s .k + s .m) ≡ 0) × (a < s .m) × (b < s .k) × (g < sourceBits (s .length)) × (sourcesOf (deskOf s (now shifts)) (now sources) b g ≡ 0) ⌝ }
-    ensures { λ _. ⌜ Took (deskOf s (now (shifts .entry))) a b g (now (sources .entry)) (now (rests .entry)) (now (sources .exit)) (now (rests .exit)) ⌝ }
-{
-    let e = table::shift_of(s, shifts, a, b);
-    if bits::bit_of(rests, a * ROW_BITS + (e + g)) != 0 {
-        bits::flip(sources, b * table::source_bits(s) + g);
-        turn_rows(s, shifts, b, g, rests);
-    }
-}
-
 // The first missing source from b on, or k.
 pub fn next_missing(s: Shape, b: usize) -> usize
     requires { ⌜ (s .k ≤ maxK) × (b ≤ s .k) ⌝ }
@@ -160,7 +121,148 @@ fn list_missing(s: Shape) -> Missing
     Missing { columns, count }
 }
 
-// The source that is bare in the row of parity a, or k or more: only missing ones are looked at.
+// Bit q of source c as it stands in the row of parity a.
+fn shifted_bit(
+    s: Shape,
+    shifts: &[u8; Table::CELLS],
+    a: usize,
+    c: usize,
+    q: usize,
+    sources: &[u8; SOURCES],
+) -> u8
+    requires { ⌜ Within s (now shifts) × (a < s .m) × (c < s .k) ⌝ }
+    ensures { λ r. ⌜ (r ≡ up (deskOf s (now (shifts .entry)) .shift a c) (sourcesOf (deskOf s (now (shifts .entry))) (now (sources .entry)) c) q) × (r < 2) ⌝ }
+{
+    let e = table::shift_of(s, shifts, a, c);
+    if q < e {
+        return 0;
+    }
+    let bits = table::source_bits(s);
+    if bits <= q - e {
+        return 0;
+    }
+    bits::bit_of(sources, c * bits + (q - e))
+}
+
+// Bit q of what is left of parity a, when all that is known of the missing sources is taken out.
+fn left_bit(
+    s: Shape,
+    shifts: &[u8; Table::CELLS],
+    columns: &[u8; COLUMNS],
+    count: usize,
+    a: usize,
+    q: usize,
+    sources: &[u8; SOURCES],
+    rests: &[u8; ROWS],
+) -> u8
+    requires { ⌜ Within s (now shifts) × Lists (s .k) (s .marks) (now columns) count (s .k) × (a < s .m) × (q < rowBits) ⌝ }
+    ensures { λ r. ⌜ r ≡ leftBit (deskOf s (now (shifts .entry))) (now (sources .entry)) (now (rests .entry)) a q ⌝ }
+{
+    let mut v = bits::bit_of(rests, a * ROW_BITS + q);
+    let mut j = 0;
+    while j < count {
+        v = (v + shifted_bit(s, shifts, a, columns[j] as usize, q, sources)) % 2;
+        j += 1;
+    }
+    v
+}
+
+// Reads bit g of source b in the row of parity a.
+fn take_bit(
+    s: Shape,
+    shifts: &[u8; Table::CELLS],
+    columns: &[u8; COLUMNS],
+    count: usize,
+    a: usize,
+    b: usize,
+    g: usize,
+    sources: &mut [u8; SOURCES],
+    rests: &[u8; ROWS],
+)
+    requires { ⌜ Within s (now shifts) × Lists (s .k) (s .marks) (now columns) count (s .k) × (a < s .m) × (b < s .k) × (g < sourceBits (s .length)) × (sourcesOf (deskOf s (now shifts)) (now sources) b g ≡ 0) ⌝ }
+    ensures { λ _. ⌜ Took (deskOf s (now (shifts .entry))) a b g (now (sources .entry)) (now (rests .entry)) (now (sources .exit)) ⌝ }
+{
+    let e = table::shift_of(s, shifts, a, b);
+    let v = left_bit(s, shifts, columns, count, a, e + g, sources, rests);
+    bits::flip(sources, b * table::source_bits(s) + g, v);
+}
+
+// Takes source b out of the row of each parity at hand, at that parity's own shift.
+fn take_out(
+    s: Shape,
+    shifts: &[u8; Table::CELLS],
+    b: usize,
+    sources: &[u8],
+    rests: &mut [u8; ROWS],
+)
+    requires { ⌜ Within s (now shifts) × (s .marks / 2 ^ (s .k + s .m) ≡ 0) × (b < s .k) × (s .k * s .length ≤ length (now sources)) ⌝ }
+    ensures { λ _. ⌜ RowsAdded (deskOf s (now (shifts .entry))) (λ a q. up (deskOf s (now (shifts .entry)) .shift a b) (sourcesOf (deskOf s (now (shifts .entry))) (now (sources .entry)) b) q) (now (rests .entry)) (now (rests .exit)) ⌝ }
+{
+    let bytes = table::source_bytes(s);
+    let from = b * bytes;
+    let end = from + bytes;
+    let k = s.k;
+    let mut next = k;
+    let mut rest = s.marks >> k;
+    while rest != 0 {
+        let skip = table::packets::lowest_present(rest);
+        let a = next + skip - k;
+        let e = table::shift_of(s, shifts, a, b);
+        encode::shift::shift_add(rests, a * Table::LONGEST, &sources[from..end], e);
+        next += skip + 1;
+        rest = rest >> skip >> 1;
+    }
+}
+
+// Takes the missing sources, as far as they are known, out of the rows.
+fn take_missing(
+    s: Shape,
+    shifts: &[u8; Table::CELLS],
+    columns: &[u8; COLUMNS],
+    count: usize,
+    sources: &[u8],
+    rests: &mut [u8; ROWS],
+)
+    requires { ⌜ Within s (now shifts) × (s .marks / 2 ^ (s .k + s .m) ≡ 0) × Lists (s .k) (s .marks) (now columns) count (s .k) × (s .k * s .length ≤ length (now sources)) ⌝ }
+    ensures { λ _. ⌜ RowsAdded (deskOf s (now (shifts .entry))) (sumOf (deskOf s (now (shifts .entry))) (missing (deskOf s (now (shifts .entry))) (sourcesOf (deskOf s (now (shifts .entry))) (now (sources .entry))))) (now (rests .entry)) (now (rests .exit)) ⌝ }
+{
+    let mut j = 0;
+    while j < count {
+        take_out(s, shifts, columns[j] as usize, sources, rests);
+        j += 1;
+    }
+}
+
+// The lowest next bit of parity a, with source b, a missing one, looked at too; its source is k where two share the place.
+fn lower(
+    s: Shape,
+    shifts: &[u8; Table::CELLS],
+    g: &[u64; Table::SOURCES],
+    a: usize,
+    b: usize,
+    x: Low,
+) -> Low
+    requires { ⌜ Within s (now shifts) × (a < s .m) × (b < s .k) × (mark (s .marks) b ≡ false) ⌝ }
+    ensures { λ r. ⌜ (Leading (deskOf s (now (shifts .entry))) (at (now (g .entry))) a b (x .place) (x .source) → Leading (deskOf s (now (shifts .entry))) (at (now (g .entry))) a (b + 1) (r .place) (r .source)) ⌝ }
+{
+    let here = g[b];
+    if table::source_bits(s) as u64 <= here {
+        return x;
+    }
+    let place = table::shift_of(s, shifts, a, b) as u64 + here;
+    if place < x.place {
+        return Low { place, source: b };
+    }
+    if place == x.place {
+        return Low {
+            place,
+            source: s.k,
+        };
+    }
+    x
+}
+
+// The source whose next bit stands alone lowest in the row of parity a, or k.
 fn row_source(
     s: Shape,
     shifts: &[u8; Table::CELLS],
@@ -169,16 +271,16 @@ fn row_source(
     count: usize,
     a: usize,
 ) -> usize
-    requires { ⌜ Within s (now shifts) × Fits (deskOf s (now shifts)) (at (now g)) × Lists (s .k) (s .marks) (now columns) count (s .k) × (a < s .m) ⌝ }
-    ensures { λ r. ⌜ r ≡ scan (deskOf s (now (shifts .entry))) (at (now (g .entry))) a (s .k) .1 ⌝ }
+    requires { ⌜ Within s (now shifts) × Lists (s .k) (s .marks) (now columns) count (s .k) × (a < s .m) ⌝ }
+    ensures { λ r. ⌜ (r < s .k → Leads (deskOf s (now (shifts .entry))) (at (now (g .entry))) a r) ⌝ }
 {
     let mut x = Low {
-        place: 0,
+        place: u64::MAX,
         source: s.k,
     };
     let mut j = 0;
     while j < count {
-        x = walk::lower(s, shifts, g, a, columns[j] as usize, x);
+        x = lower(s, shifts, g, a, columns[j] as usize, x);
         j += 1;
     }
     x.source
@@ -193,7 +295,7 @@ fn pair_from(
     count: usize,
     from: usize,
 ) -> Pair
-    requires { ⌜ Within s (now shifts) × (s .marks / 2 ^ (s .k + s .m) ≡ 0) × Fits (deskOf s (now shifts)) (at (now g)) × Lists (s .k) (s .marks) (now columns) count (s .k) × (from ≤ s .m) ⌝ }
+    requires { ⌜ Within s (now shifts) × (s .marks / 2 ^ (s .k + s .m) ≡ 0) × Lists (s .k) (s .marks) (now columns) count (s .k) × (from ≤ s .m) ⌝ }
     ensures { λ r. ⌜ (r .parity < s .m → Bare (deskOf s (now (shifts .entry))) (at (now (g .entry))) (r .parity) (r .source)) ⌝ }
 {
     let k = s.k;
@@ -268,11 +370,12 @@ fn decode(
         let a = p.parity;
         let b = p.source;
         if s.m <= a {
+            take_missing(s, shifts, &columns, n, sources, rests);
             let whole = walk::is_whole(s, &g);
             return DecodeAnswer { count, whole };
         }
         let here = g[b];
-        take_bit(s, shifts, a, b, here as usize, sources, rests);
+        take_bit(s, shifts, &columns, n, a, b, here as usize, sources, rests);
         g[b] = here + 1;
         count += 1;
         row = a + 1;

@@ -4,13 +4,15 @@ use mathlib.Core.Path.{_≡_, refl, subst}
 use native.Mathlib.Omega.{arith}
 use lib.ListN.{replicate}
 use borrow.Author.Needs.{needs}
+use mathlib.Core.Bool.{false}
+use Rattle.table.specs.Desk.{mark}
 use Rattle.rebuild.specs.Data.{Lists}
 use Rattle.rebuild.proofs.Skips.{lists-none, lists-more}
 use Rattle.rebuild.proofs.decode.list_missing.Statement.{statement}
 use Rattle.rebuild.proofs.decode.list_missing.Tie as tie
 
 abbrev Inv-loop : tie.InvT-loop
-Inv-loop s columns₀ count₀ b₀ columns count b = (b ≤ s .k) × Lists (s .k) (s .marks) columns count b
+Inv-loop s columns₀ count₀ b₀ columns count b = (b ≤ s .k) × Lists (s .k) (s .marks) columns count b × (b < s .k → mark (s .marks) b ≡ false)
 
 abbrev μ-loop : tie.MeasureT-loop
 μ-loop s columns₀ count₀ b₀ columns count b = s .k - b
@@ -28,7 +30,7 @@ loop-holds : tie.Need-loop-holds Inv-loop μ-loop
 loop-holds c =
     let s = c .before .args .s in
     let n = c .next-missing in
-    (n .ensures .1, lists-none (s .k) (s .marks) (replicate 9 0) (n .result) refl (n .ensures .2))
+    (n .ensures .1, lists-none (s .k) (s .marks) (replicate 9 0) (n .result) refl (n .ensures .2), n .ensures .3)
 
 add-next-missing : tie.Need-add-next-missing Inv-loop μ-loop
 add-next-missing c = search needs
@@ -53,7 +55,7 @@ loop-again c =
     let l = c .before .before .before in
     let s = l .before .before in
     let n = c .next-missing2 in
-    (n .ensures .1, lists-more (s .args .s .k) (s .args .s .marks) (l .loop .columns) (l .loop .count) (l .loop .b) (l .loop .inv .1) (n .result) (c .before .if1 .taken) (s .pre) (n .ensures .0) (n .ensures .2))
+    (n .ensures .1, lists-more (s .args .s .k) (s .args .s .marks) (l .loop .columns) (l .loop .count) (l .loop .b) (l .loop .inv .1) (n .result) (c .before .if1 .taken) (l .loop .inv .2 (c .before .if1 .taken)) (s .pre) (n .ensures .0) (n .ensures .2), n .ensures .3)
 
 returns : tie.Need-returns Inv-loop μ-loop
 returns c =

@@ -1,14 +1,11 @@
 -- `rebuild::decode::pair_from` meets its contract: the source found in a row is bare there. Assumes nothing.
 use Prim.Native.Nat.{ℕ, _+_, _/_, _^_, _≤_, _<_, _-_}
-use mathlib.Core.Path.{_≡_, refl, subst, sym, ap, _∙_}
+use mathlib.Core.Path.{_≡_, refl, sym, ap, _∙_}
 use native.Mathlib.Omega.{arith}
 use borrow.Author.Needs.{needs}
-use Rattle.bits.specs.Sums.{at}
 use Rattle.table.specs.Desk.{mark}
 use Rattle.table.specs.Table.{deskOf}
 use Rattle.table.proofs.PacketLaws.{next-in, next-marked, next-rest}
-use Rattle.walk.specs.Walk.{Bare}
-use Rattle.walk.proofs.Scan.{source-bare, source-held}
 use Rattle.rebuild.proofs.decode.pair_from.Statement.{statement}
 use Rattle.rebuild.proofs.decode.pair_from.Tie as tie
 
@@ -47,7 +44,7 @@ row-source-requires : tie.Need-row-source-requires Inv-loop μ-loop
 row-source-requires c κs =
     let s = c .before .before .before .before in
     let w = inside c in
-    (s .pre .0, s .pre .2, s .pre .3, omega arith)
+    (s .pre .0, s .pre .2, omega arith)
 
 returns : tie.Need-returns Inv-loop μ-loop
 returns c =
@@ -56,13 +53,12 @@ returns c =
     let l = p .before .before in
     let s = l .before .before in
     let D = deskOf (s .args .s) (s .args .shifts .now) in
-    let G = at (s .args .g .now) in
     let a = l .loop .next + p .lowest-present .result - s .args .s .k in
     let w = inside p in
     let from : l .loop .next + p .lowest-present .result ≡ s .args .s .k + a = omega arith in
     let at-hand = ap (mark (s .args .s .marks)) (sym from) ∙ next-marked D (s .args .s .marks) (s .args .s .k + s .args .s .m) (s .pre .1) (l .loop .next) (l .loop .rest) (l .loop .inv .2) (p .lowest-present .result) (p .lowest-present .ensures .0) in
-    let e = f .row-source .ensures ∙ source-held D G a at-hand in
-    λ la. subst (Bare D G a) (sym e) (source-bare D G a la (omega (arith, e, c .if1 .taken)))
+    let leads = f .row-source .ensures (c .if1 .taken) in
+    λ la. record { held = (la, at-hand); free = leads .0; lowest = leads .1 }
 
 add-next-2 : tie.Need-add-next-2 Inv-loop μ-loop
 add-next-2 c = search needs
