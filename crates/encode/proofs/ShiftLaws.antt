@@ -15,7 +15,7 @@ use lib.ListN.{length, getD, set, take, drop, replicate, length-set, length-take
 use lib.Seq.{getD-set-other, take-length}
 use Rattle.bits.specs.Bits.{bit, bitAt, num, Bytes, up}
 use Rattle.bits.proofs.BitLaws.{lt-or-ge, and-255, bit-beside, bit-zero-shl, bitAt-lt, bitAt-past, bitAt-take, bitAt-drop, bitAt-xor, bitAt-put, bytes-take, getD-zeros, zero-bits, num-take-suc, num-take-lt}
-use Rattle.bits.proofs.UpLaws.{up-same, up-from, up-high, up-up, up-none, bit-up}
+use Rattle.bits.proofs.UpLaws.{up-same, up-from, up-high, up-up, up-lt, up-none, bit-up}
 
 -- one byte of a list more, shifted up by e: the byte shifted within its place i + e / 8
 bit-grow : (xs : List ℕ) → Bytes xs → (i e p : ℕ) → i < length xs
@@ -178,6 +178,12 @@ copy-take t xs e n room h p = ⊎-elim
 pub copy-up : (t xs : List ℕ) (s e n : ℕ) → 8 * length xs + e ≤ 8 * n → ((p : ℕ) → bitAt t p ≡ up e (bitAt xs) p)
     → (p : ℕ) → up (8 * s) (bitAt (take n t)) p ≡ up (8 * s + e) (bitAt xs) p
 copy-up t xs s e n room h p = up-same (8 * s) (bitAt (take n t)) (up e (bitAt xs)) p (λ q _. copy-take t xs e n room h q) ∙ up-up (8 * s) e (bitAt xs) p
+
+-- added into noughts, from their first bit on
+pub into-noughts : (t xs : List ℕ) (e : ℕ) → ((p : ℕ) → bitAt t p ≡ (bitAt (replicate 64 0) p + up (8 * 0 + e) (bitAt xs) p) % 2) → (p : ℕ) → bitAt t p ≡ up e (bitAt xs) p
+into-noughts t xs e h p =
+    let first : 8 * 0 + e ≡ e = omega arith in
+    h p ∙ omega (arith, zero-bits 64 p, ap (λ x. up x (bitAt xs) p) first, up-lt e (bitAt xs) p (bitAt-lt xs))
 
 -- n bytes from bit e on: they were shifted up to the next byte, and start there
 pub copy-down : (t xs : List ℕ) (e n : ℕ) → e + 8 * n ≤ 8 * length xs → ((p : ℕ) → bitAt t p ≡ up (8 - e % 8) (bitAt (take ((e + 7) / 8 + n - e / 8) (drop (e / 8) xs))) p)

@@ -24,7 +24,8 @@ pub fn add_from(dst: &mut [u8], start: usize, src: &[u8], e: usize, n: usize)
     requires { ⌜ start + n ≤ length (now dst) ⌝ }
     ensures { λ _. ⌜ ((p : ℕ) → bitAt (now (dst .exit)) p ≡ (bitAt (now (dst .entry)) p + up (8 * start) (λ q. cond (ltb q (8 * n)) (bitAt (now (src .entry)) (e + q)) 0) p) % 2) ⌝ }
 {
-    let copy = shifted(&src[e / 8..(e + 7) / 8 + n], 8 - e % 8);
+    let mut copy = [0u8; Table::LONGEST];
+    shift_add(&mut copy, 0, &src[e / 8..(e + 7) / 8 + n], 8 - e % 8);
     add_bytes(dst, start, &copy[1..n + 1], n);
 }
 

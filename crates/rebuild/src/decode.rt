@@ -188,13 +188,7 @@ fn take_bit(
 }
 
 // Takes source b out of the row of each parity at hand, at that parity's own shift.
-fn take_out(
-    s: Shape,
-    shifts: &[u8; Table::CELLS],
-    b: usize,
-    sources: &[u8],
-    rests: &mut [u8; ROWS],
-)
+fn take_out(s: Shape, shifts: &[u8; Table::CELLS], b: usize, sources: &[u8], rests: &mut [u8; ROWS])
     requires { ⌜ Within s (now shifts) × (s .marks / 2 ^ (s .k + s .m) ≡ 0) × (b < s .k) × (s .k * s .length ≤ length (now sources)) ⌝ }
     ensures { λ _. ⌜ RowsAdded (deskOf s (now (shifts .entry))) (λ a q. up (deskOf s (now (shifts .entry)) .shift a b) (sourcesOf (deskOf s (now (shifts .entry))) (now (sources .entry)) b) q) (now (rests .entry)) (now (rests .exit)) ⌝ }
 {
@@ -254,10 +248,7 @@ fn lower(
         return Low { place, source: b };
     }
     if place == x.place {
-        return Low {
-            place,
-            source: s.k,
-        };
+        return Low { place, source: s.k };
     }
     x
 }

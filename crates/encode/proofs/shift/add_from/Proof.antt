@@ -5,30 +5,33 @@ use native.Mathlib.Omega.{arith}
 use borrow.Author.Needs.{needs}
 use Rattle.bits.specs.Bits.{bitAt}
 use Rattle.bits.proofs.UpLaws.{up-same}
-use Rattle.encode.proofs.ShiftLaws.{copy-down}
+use Rattle.encode.proofs.ShiftLaws.{copy-down, into-noughts}
 use Rattle.encode.proofs.shift.add_from.Statement.{statement}
 use Rattle.encode.proofs.shift.add_from.Tie as tie
 
-add-shifted : tie.Need-add-shifted
-add-shifted c = omega arith
+slice-aggregate-shift-add : tie.Need-slice-aggregate-shift-add
+slice-aggregate-shift-add c = search needs
 
-add-shifted-2 : tie.Need-add-shifted-2
-add-shifted-2 c = search needs
+add-shift-add : tie.Need-add-shift-add
+add-shift-add c = search needs
 
-sub-shifted : tie.Need-sub-shifted
-sub-shifted c = search needs
+add-shift-add-2 : tie.Need-add-shift-add-2
+add-shift-add-2 c = search needs
 
-part-shifted-start : tie.Need-part-shifted-start
-part-shifted-start c = search needs
+sub-shift-add : tie.Need-sub-shift-add
+sub-shift-add c = search needs
 
-part-shifted-end : tie.Need-part-shifted-end
-part-shifted-end c = search needs
+part-shift-add-start : tie.Need-part-shift-add-start
+part-shift-add-start c = search needs
 
-sub-shifted-2 : tie.Need-sub-shifted-2
-sub-shifted-2 c = search needs
+part-shift-add-end : tie.Need-part-shift-add-end
+part-shift-add-end c = search needs
 
-shifted-requires : tie.Need-shifted-requires
-shifted-requires c κs = search needs
+sub-shift-add-2 : tie.Need-sub-shift-add-2
+sub-shift-add-2 c = search needs
+
+shift-add-requires : tie.Need-shift-add-requires
+shift-add-requires c κs = search needs
 
 add-add-bytes : tie.Need-add-add-bytes
 add-add-bytes c = search needs
@@ -50,24 +53,24 @@ same-length c = search needs
 
 returns : tie.Need-returns
 returns c =
-    let call = c .before .before .before .before .before .before in
-    let s = call .before .before .before .before .args in
+    let call = c .before .before .before .before .before .before .before in
+    let s = call .before .before .before .before .before .args in
     λ p.
     c .before .before .add-bytes .ensures p
-    ∙ ap (λ x. (bitAt (s .dst .now) p + x) % 2)
-    (up-same (8 * s .start) _ _ p (λ q _. copy-down (call .shifted .result) (s .src .now) (s .e) (s .n) (omega arith) (call .shifted .ensures) q))
+    ∙ ap (λ x. (bitAt (s .dst .now) p + x) % 2) (up-same (8 * s .start) _ _ p (λ q _. copy-down _ (s .src .now) (s .e) (s .n) (omega arith) (into-noughts _ _ _ (call .shift-add .ensures)) q))
 
 pub add-from-spec : {M : Type 1} → statement M
 add-from-spec =
     tie.close
     (tie.spec
-    add-shifted
-    add-shifted-2
-    sub-shifted
-    part-shifted-start
-    part-shifted-end
-    sub-shifted-2
-    shifted-requires
+    slice-aggregate-shift-add
+    add-shift-add
+    add-shift-add-2
+    sub-shift-add
+    part-shift-add-start
+    part-shift-add-end
+    sub-shift-add-2
+    shift-add-requires
     add-add-bytes
     sub-add-bytes
     part-add-bytes-start

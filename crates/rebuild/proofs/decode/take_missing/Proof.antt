@@ -54,9 +54,11 @@ loop-again c =
     let columns = s .args .columns .now in
     let L = s .pre .2 in
     let lj : l .loop .j < s .args .count = omega arith in
-    let b = at columns (l .loop .j) in
-    (omega arith, rows-same D _ _ (s .args .rests .now) _ (λ a q. omega (arith, listed-more (s .args .s .k) (s .args .s .marks) columns (s .args .count) (s .args .s .k) L (part D x a q) (part-present D x a q) (l .loop .j) lj, part-gone D x a q b (L .gone (l .loop .j) lj)))
-    (rows-and D _ _ (s .args .rests .now) (l .loop .rests) _ (l .loop .inv .1) (c .take-out .ensures)))
+    let b = at columns (l .loop .j) in (
+      omega arith,
+      rows-same D _ _ (s .args .rests .now) _ (λ a q. omega (arith, listed-more (s .args .s .k) (s .args .s .marks) columns (s .args .count) (s .args .s .k) L (part D x a q) (part-present D x a q) (l .loop .j) lj, part-gone D x a q b (L .gone (l .loop .j) lj)))
+          (rows-and D _ _ (s .args .rests .now) (l .loop .rests) _ (l .loop .inv .1) (c .take-out .ensures)),
+    )
 
 returns : tie.Need-returns Inv-loop μ-loop
 unfolding sumOf
