@@ -33,8 +33,9 @@ use Rattle.walk.proofs.Ends.{whole-finishes, none-finishes}
 use Rattle.walk.proofs.Totals.{run-short, total-none}
 use Rattle.walk.proofs.Grow.{every-bit}
 use Rattle.walk.proofs.ReadLaws.{presentOf, presentOf-blank, own-encodes, knows-none, readBy-knows, only}
-use Rattle.rebuild.specs.Promise.{Ended, Finishes, EncodesTo, decodeChecks, rebuildChecks, Rebuilt, Repaired}
-use Rattle.rebuild.proofs.Survivors.{encoded-not-stray}
+use Rattle.decode.specs.Packets.{Ended, Finishes, EncodesTo}
+use Rattle.rebuild.specs.Promise.{decodeChecks, rebuildChecks, Rebuilt, Repaired}
+use Rattle.decode.proofs.Survivors.{encoded-not-stray}
 use Rattle.rebuild.proofs.AnswerLaws.{ended-finishes}
 use Rattle.rebuild.proofs.StageLaws.{rest-decides}
 use Rattle.rebuild.proofs.OneAnswer.{one-count, one-source, finishes-ends, rebuilt-bounds, some-end}

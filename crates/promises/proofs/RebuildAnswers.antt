@@ -28,11 +28,12 @@ use Rattle.walk.proofs.Totals.{all, all-most}
 use Rattle.walk.proofs.Computed.{walk-ends, whole-of, of-whole}
 use Rattle.walk.proofs.Reached.{at-noughts}
 use Rattle.walk.proofs.ReadLaws.{parity-same, only}
-use Rattle.rebuild.specs.Promise.{Ended, Finishes, came, Stray, EncodesTo, decodeChecks, rebuildChecks, Rebuilt}
-use Rattle.rebuild.specs.Data.{cameParity}
+use Rattle.decode.specs.Packets.{Ended, Finishes, came, Stray, EncodesTo}
+use Rattle.rebuild.specs.Promise.{decodeChecks, rebuildChecks, Rebuilt}
+use Rattle.decode.specs.Data.{cameParity}
 use Rattle.rebuild.specs.Stages.{Recovered}
-use Rattle.rebuild.proofs.Bounds.{shaped-bounds}
-use Rattle.rebuild.proofs.Survivors.{encodes-bits, encoded-not-stray}
+use Rattle.decode.proofs.Bounds.{shaped-bounds}
+use Rattle.decode.proofs.Survivors.{encodes-bits, encoded-not-stray}
 use Rattle.rebuild.proofs.AnswerLaws.{finishes-ended, ended-finishes, stalled, strayed, foreign, read-out}
 
 -- each element is a byte

@@ -12,7 +12,7 @@ use Rattle.encode.specs.Code.{sumOf, sourcesOf, packetOf, packetsOf}
 use Rattle.walk.specs.Read.{put}
 use Rattle.walk.specs.Compute.{placedOf, lowerOf, scan, sourceOf, parityOf, fullB, wholeB, walkFrom}
 use Rattle.rebuild.specs.Promise.{Rebuilt}
-use Rattle.rebuild.specs.Data.{cameParity}
+use Rattle.decode.specs.Data.{cameParity}
 use Rattle.promises.proofs.RebuildAnswers.{bytesB, tidyB, readAlong, stall-meets, stray-meets, foreign-meets, rebuilt-meets}
 
 abbrev pub house : List ℕ

@@ -9,8 +9,8 @@ use lib.ListN.{length, take}
 use Rattle.table.specs.Desk.{Desk}
 use Rattle.walk.specs.Walk.{Whole}
 use Rattle.walk.proofs.Ends.{finishes-whole}
-use Rattle.rebuild.specs.Promise.{Ended, Finishes, Stray, EncodesTo}
-use Rattle.rebuild.specs.Data.{ReadBack}
+use Rattle.decode.specs.Packets.{Ended, Finishes, Stray, EncodesTo}
+use Rattle.decode.specs.Data.{ReadBack}
 use Rattle.rebuild.specs.Stages.{Recovered}
 
 -- if some order finishes, every order that is run to its end does

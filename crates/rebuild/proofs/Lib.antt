@@ -1,17 +1,5 @@
-pub mod CellLaws
-pub mod AtHand
-pub mod SourceLaws
-pub mod Bounds
-pub mod Survivors
-pub mod Rows
-pub mod Known
-pub mod Search
-pub mod Steps
-pub mod EndLaws
 pub mod StrayLaws
 pub mod AnswerLaws
 pub mod StageLaws
 pub mod OneAnswer
 pub mod NoneMissing
-pub mod Skips
-pub mod LiftLaws

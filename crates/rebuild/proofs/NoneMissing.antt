@@ -19,11 +19,12 @@ use Rattle.table.proofs.PacketLaws.{place-none, place-on, place-skip, source-pa
 use Rattle.encode.specs.Code.{sourcesOf}
 use Rattle.encode.proofs.CodeLaws.{slice-past}
 use Rattle.walk.specs.Walk.{done}
-use Rattle.rebuild.specs.Promise.{Finishes, came, Stray, EncodesTo, decodeChecks, rebuildChecks, Rebuilt, Repaired}
+use Rattle.decode.specs.Packets.{Finishes, came, Stray, EncodesTo}
+use Rattle.rebuild.specs.Promise.{decodeChecks, rebuildChecks, Rebuilt, Repaired}
 use Rattle.rebuild.specs.Stages.{namedChecks}
-use Rattle.rebuild.proofs.SourceLaws.{sources-are}
-use Rattle.rebuild.proofs.Bounds.{Bounded, shaped-bounds}
-use Rattle.rebuild.proofs.Survivors.{bits-encode}
+use Rattle.decode.proofs.SourceLaws.{sources-are}
+use Rattle.decode.proofs.Bounds.{Bounded, shaped-bounds}
+use Rattle.decode.proofs.Survivors.{bits-encode}
 use Rattle.rebuild.proofs.StageLaws.{later, named-parts}
 use Rattle.rebuild.proofs.OneAnswer.{finishes-ends, one-count}
 

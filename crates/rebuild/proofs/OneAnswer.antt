@@ -18,12 +18,13 @@ use Rattle.walk.proofs.Runs.{same-end, run-fits}
 use Rattle.walk.proofs.Computed.{whole-of, of-whole}
 use Rattle.walk.proofs.Ends.{run-to-end, whole-stuck}
 use Rattle.walk.proofs.ReadLaws.{sources-same}
-use Rattle.rebuild.specs.Promise.{Ended, Finishes, came, EncodesTo, decodeChecks, rebuildChecks, repairChecks, Rebuilt, Repaired}
-use Rattle.rebuild.specs.Data.{cameParity}
+use Rattle.decode.specs.Packets.{Ended, Finishes, came, EncodesTo}
+use Rattle.rebuild.specs.Promise.{decodeChecks, rebuildChecks, repairChecks, Rebuilt, Repaired}
+use Rattle.decode.specs.Data.{cameParity}
 use Rattle.rebuild.specs.Stages.{lentChecks, packetChecks, namedChecks}
-use Rattle.rebuild.proofs.SourceLaws.{sources-ext}
-use Rattle.rebuild.proofs.Bounds.{Bounded, shaped-bounds}
-use Rattle.rebuild.proofs.Survivors.{encodes-bits}
+use Rattle.decode.proofs.SourceLaws.{sources-ext}
+use Rattle.decode.proofs.Bounds.{Bounded, shaped-bounds}
+use Rattle.decode.proofs.Survivors.{encodes-bits}
 use Rattle.rebuild.proofs.AnswerLaws.{finishes-ended, ended-finishes}
 
 module _ (D : Desk) where

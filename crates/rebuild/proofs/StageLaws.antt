@@ -13,7 +13,8 @@ use Rattle.table.proofs.CheckLaws.{Numbered, stops, goes, neither, zero-checked
 use Rattle.table.proofs.MarkLaws.{none-left}
 use Rattle.table.proofs.OpenLaws.{desk-opened}
 use Rattle.encode.specs.Code.{packetOf}
-use Rattle.rebuild.specs.Promise.{EncodesTo, decodeChecks, rebuildChecks, Rebuilt, Repaired}
+use Rattle.decode.specs.Packets.{EncodesTo}
+use Rattle.rebuild.specs.Promise.{decodeChecks, rebuildChecks, Rebuilt, Repaired}
 use Rattle.rebuild.specs.Stages.{Recovered, RebuildGiven, PacketRecovered, PacketGiven, RepairGiven, lentChecks, packetChecks, namedChecks}
 
 -- every number of the list is below x

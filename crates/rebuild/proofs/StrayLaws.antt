@@ -16,8 +16,8 @@ use Rattle.table.specs.Desk.{Desk, mark, packetBits, packetBytes, placeOf}
 use Rattle.table.specs.Table.{LowestMark, deskOf}
 use Rattle.table.specs.declared.Shape.{Shape}
 use Rattle.table.proofs.PacketLaws.{place-skip, next-in, next-marked, next-skips}
-use Rattle.rebuild.specs.Promise.{came, Stray}
-use Rattle.rebuild.proofs.AtHand.{unmarked}
+use Rattle.decode.specs.Packets.{came, Stray}
+use Rattle.decode.proofs.AtHand.{unmarked}
 
 -- a list that is not clear from n on has a one there
 pub one-above : (xs : List ℕ) (n : ℕ) → (ClearFrom xs n → ⊥) → (p : ℕ) × (n ≤ p) × (bitAt xs p ≡ 1)

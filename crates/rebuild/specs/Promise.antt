@@ -1,53 +1,17 @@
 -- What the calls rebuild and repair promise.
 use mathlib.Core.Path.{_≡_}
 use mathlib.Core.Logic.{_⊎_}
-use mathlib.Core.Bool.{Bool, true, false}
 use mathlib.Core.List.{List, [], _∷_, _++_}
-use Prim.Native.Nat.{ℕ, _+_, _-_, _*_, _≤_, _<_}
-use lib.ListN.{length}
-use Rattle.bits.specs.Bits.{bitAt, Bytes, slice}
-use Rattle.table.specs.Desk.{Desk, desk, mark, sourceBytes, packetBits, packetBytes, placeOf}
+use Prim.Native.Nat.{ℕ, _+_, _-_, _*_}
+use Rattle.table.specs.Desk.{Desk, desk, mark, sourceBytes, packetBytes, placeOf}
 use Rattle.table.specs.Checks.{Checks, Checked, Outside, MarkAbove, shapeChecks, countChecks, markedChecks, inputChecks, outputChecks}
-use Rattle.encode.specs.Code.{packetOf, survivorsOf}
-use Rattle.walk.specs.Walk.{Order, Run, Stuck, Whole}
+use Rattle.encode.specs.Code.{packetOf}
+use Rattle.decode.specs.Packets.{Ended, Finishes, Stray, EncodesTo}
 
-module _ (D : Desk) where
-  open Desk D using (k, m, bytes, present)
-
-  -- n steps, one after the other from nothing, until none is left
-  pub record Ended (n : ℕ) : Type 0 where
-    pub order : Order
-    pub end : ℕ → ℕ
-    pub run : Run D (λ c. 0) order end
-    pub stuck : Stuck D end
-    pub counted : n ≡ length order
-
-  -- n steps, one after the other from nothing, that finish all missing sources
-  pub record Finishes (n : ℕ) : Type 0 where
-    pub order : Order
-    pub end : ℕ → ℕ
-    pub run : Run D (λ c. 0) order end
-    pub whole : Whole D end
-    pub counted : n ≡ length order
-
-  module _ (packets : List ℕ) where
-    -- packet i as it came
-    abbrev pub came : ℕ → List ℕ
-    came i = slice packets (placeOf D present i) (packetBytes D i)
-
-    -- a packet at hand has a one above its last bit
-    abbrev pub Stray : Type 0
-    Stray = (i : ℕ) × (i < k + m) × (present i ≡ true) × ((p : ℕ) × (packetBits D i ≤ p) × (bitAt (came i) p ≡ 1))
-
-    -- the sources x encode to these packets
-    pub record EncodesTo (x : List ℕ) : Type 0 where
-      pub size : length x ≡ k * bytes
-      pub are-bytes : Bytes x
-      pub same : packets ≡ survivorsOf D x
-
-    -- 8: no order of steps finishes all missing sources; 9: a packet at hand has a one above its last bit; 10: no sources encode to these packets
-    abbrev pub decodeChecks : Checks
-    decodeChecks = (8, (n : ℕ) → Finishes n → ⊥) ∷ (9, Stray) ∷ (10, (x : List ℕ) → EncodesTo x → ⊥) ∷ []
+module _ (D : Desk) (packets : List ℕ) where
+  -- 8: no order of steps finishes all missing sources; 9: a packet at hand has a one above its last bit; 10: no sources encode to these packets
+  abbrev pub decodeChecks : Checks
+  decodeChecks = (8, (n : ℕ) → Finishes D n → ⊥) ∷ (9, Stray D packets) ∷ (10, (x : List ℕ) → EncodesTo D packets x → ⊥) ∷ []
 
 -- 1 2 3 6 7 4 5 8 9 10
 abbrev pub rebuildChecks : ℕ → ℕ → ℕ → List ℕ → ℕ → List ℕ → List ℕ → Checks

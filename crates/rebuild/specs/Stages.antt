@@ -6,7 +6,8 @@ use Prim.Native.Nat.{ℕ, _+_, _-_, _*_, _<_}
 use Rattle.table.specs.Desk.{Desk, packetBytes, placeOf}
 use Rattle.table.specs.Checks.{Checks, Checked, Outside, MarkAbove, countChecks, inputChecks, outputChecks}
 use Rattle.encode.specs.Code.{packetOf}
-use Rattle.rebuild.specs.Promise.{Ended, Finishes, EncodesTo, decodeChecks}
+use Rattle.decode.specs.Packets.{Ended, Finishes, EncodesTo}
+use Rattle.rebuild.specs.Promise.{decodeChecks}
 
 module _ (D : Desk) (packets : List ℕ) where
   open Desk D using (k, m, bytes, present)

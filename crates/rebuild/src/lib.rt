@@ -1,6 +1,4 @@
 // Rebuilding: the sources read back from any k packets.
-pub mod decode;
-pub mod lift;
 pub mod repair;
 
 use table::Number;
@@ -13,7 +11,8 @@ ghost use Rattle.bits.specs.Bits.{bitAt, Tells};
 ghost use Rattle.table.specs.Limits.{maxK, maxLength};
 ghost use Rattle.table.specs.Desk.{mark, placeOf};
 ghost use Rattle.table.specs.Table.{Within, deskOf};
-ghost use Rattle.rebuild.specs.Promise.{Stray, Rebuilt};
+ghost use Rattle.decode.specs.Packets.{Stray};
+ghost use Rattle.rebuild.specs.Promise.{Rebuilt};
 ghost use Rattle.rebuild.specs.Stages.{Recovered, RebuildGiven};
 
 // What rebuild gives: the count of steps, with 8 those made before the stall.

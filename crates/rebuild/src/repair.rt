@@ -32,7 +32,7 @@ fn repair_into(
     requires { ⌜ Within s (now shifts) × (s .marks / 2 ^ (s .k + s .m) ≡ 0) × (length (now packets) ≡ placeOf (deskOf s (now shifts)) (mark (s .marks)) (s .k + s .m)) × (i < s .k + s .m) × (length (now out) ≡ packetBytes (deskOf s (now shifts)) i) ⌝ }
     ensures { λ r. ⌜ PacketRecovered (deskOf s (now (shifts .entry))) (now (packets .entry)) i (now (out .entry)) r (now (out .exit)) ⌝ }
 {
-    let mut sources = [0u8; crate::decode::SOURCES];
+    let mut sources = [0u8; decode::SOURCES];
     let r = crate::recover(s, shifts, packets, &mut sources);
     if r.number != 0 {
         return r.number;

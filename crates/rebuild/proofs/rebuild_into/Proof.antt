@@ -8,7 +8,7 @@ use Rattle.bits.proofs.BitLaws.{zero-bits}
 use Rattle.table.specs.Limits.{maxK, maxLength}
 use Rattle.table.specs.Table.{deskOf}
 use Rattle.rebuild.specs.Stages.{Recovered}
-use Rattle.rebuild.proofs.Bounds.{within-bounds, sources-fit}
+use Rattle.decode.proofs.Bounds.{within-bounds, sources-fit}
 use Rattle.rebuild.proofs.AnswerLaws.{recovered-refused}
 use Rattle.rebuild.proofs.rebuild_into.Statement.{statement}
 use Rattle.rebuild.proofs.rebuild_into.Tie as tie

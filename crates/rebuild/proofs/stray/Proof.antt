@@ -11,7 +11,7 @@ use Rattle.bits.proofs.BitLaws.{tells-so, tells-not}
 use Rattle.table.specs.Desk.{mark, packetBits, packetBytes, placeOf}
 use Rattle.table.specs.Table.{deskOf}
 use Rattle.table.proofs.PacketLaws.{place-none, next-in, next-place, next-rest}
-use Rattle.rebuild.proofs.Rows.{next-room}
+use Rattle.decode.proofs.Rows.{next-room}
 use Rattle.rebuild.proofs.StrayLaws.{ClearBelow, clear-none, clear-more, clear-all, stray-here}
 use Rattle.rebuild.proofs.stray.Statement.{statement}
 use Rattle.rebuild.proofs.stray.Tie as tie

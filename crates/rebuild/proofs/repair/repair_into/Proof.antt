@@ -9,7 +9,7 @@ use Rattle.table.specs.Limits.{maxK, maxLength}
 use Rattle.table.specs.Table.{deskOf}
 use Rattle.table.proofs.CheckLaws.{zero-checked}
 use Rattle.rebuild.specs.Promise.{decodeChecks}
-use Rattle.rebuild.proofs.Bounds.{within-bounds, sources-fit}
+use Rattle.decode.proofs.Bounds.{within-bounds, sources-fit}
 use Rattle.rebuild.proofs.repair.repair_into.Statement.{statement}
 use Rattle.rebuild.proofs.repair.repair_into.Tie as tie
 

@@ -1,0 +1,12 @@
+pub mod CellLaws
+pub mod AtHand
+pub mod SourceLaws
+pub mod Bounds
+pub mod Survivors
+pub mod Rows
+pub mod MissingSums
+pub mod Search
+pub mod Steps
+pub mod EndLaws
+pub mod Skips
+pub mod LiftLaws
