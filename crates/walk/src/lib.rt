@@ -63,7 +63,7 @@ fn placed(k: usize, x: Low, place: u64, b: usize) -> Low
 }
 
 // The lowest next bit of parity a, with source b looked at too.
-pub fn lower(
+fn lower(
     s: Shape,
     shifts: &[u8; Table::CELLS],
     g: &[u64; Table::SOURCES],
