@@ -45,10 +45,10 @@ fn place(
     let end = from + table::packets::packet_bytes(s, shifts, i);
     let k = s.k;
     if i < k {
-        encode::shift::shift_add(sources, i * table::source_bytes(s), &packets[from..end], 0);
+        shift::shift_add(sources, i * table::source_bytes(s), &packets[from..end], 0);
         return end;
     }
-    encode::shift::shift_add(rests, (i - k) * Table::LONGEST, &packets[from..end], 0);
+    shift::shift_add(rests, (i - k) * Table::LONGEST, &packets[from..end], 0);
     end
 }
 
@@ -204,7 +204,7 @@ fn take_out(s: Shape, shifts: &[u8; Table::CELLS], b: usize, sources: &[u8], res
         let skip = table::packets::lowest_present(rest);
         let a = next + skip - k;
         let e = table::shift_of(s, shifts, a, b);
-        encode::shift::shift_add(rests, a * Table::LONGEST, &sources[from..end], e);
+        shift::shift_add(rests, a * Table::LONGEST, &sources[from..end], e);
         next += skip + 1;
         rest = rest >> skip >> 1;
     }

@@ -52,6 +52,6 @@ pub fn lift(
     let e = table::shift_of(s, shifts, a, b);
     let row = a * Table::LONGEST;
     let from = b * n;
-    encode::shift::add_from(sources, from, &rests[row..row + Table::LONGEST], e, n);
-    encode::shift::shift_add(rests, row, &sources[from..from + n], e);
+    shift::add_from(sources, from, &rests[row..row + Table::LONGEST], e, n);
+    shift::shift_add(rests, row, &sources[from..from + n], e);
 }

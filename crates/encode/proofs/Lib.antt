@@ -1,4 +1,3 @@
-pub mod ShiftLaws
 pub mod CodeLaws
 pub mod RowLaws
 pub mod StageLaws

@@ -1,6 +1,5 @@
 // Encoding: each parity is the sum of the sources, shifted up by the entries of its row.
 pub mod row;
-pub mod shift;
 
 use table::Number;
 use table::Shape;

@@ -29,7 +29,7 @@ pub fn add_row(
         let from = b * bytes;
         let end = from + bytes;
         let e = table::shift_of(s, shifts, a, b);
-        crate::shift::shift_add(dst, start, &sources[from..end], e);
+        shift::shift_add(dst, start, &sources[from..end], e);
         b += 1;
     }
 }

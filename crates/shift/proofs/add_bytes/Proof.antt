@@ -2,9 +2,9 @@
 use Prim.Native.Nat.{_-_, _≤_}
 use native.Mathlib.Omega.{arith}
 use Rattle.bits.specs.Bits.{Bytes}
-use Rattle.encode.proofs.ShiftLaws.{Added, added-none, added-more, added-all}
-use Rattle.encode.proofs.shift.add_bytes.Statement.{statement}
-use Rattle.encode.proofs.shift.add_bytes.Tie as tie
+use Rattle.shift.proofs.ShiftLaws.{Added, added-none, added-more, added-all}
+use Rattle.shift.proofs.add_bytes.Statement.{statement}
+use Rattle.shift.proofs.add_bytes.Tie as tie
 
 abbrev Inv-loop : tie.InvT-loop
 Inv-loop dst₀ start src n i₀ dst i = (i ≤ n) × Added dst₀ src start i dst

@@ -5,9 +5,9 @@ use borrow.Author.Needs.{needs}
 use lib.ListN.{length}
 use Rattle.bits.specs.Bits.{Bytes}
 use Rattle.bits.proofs.BitLaws.{and-255}
-use Rattle.encode.proofs.ShiftLaws.{Parts, ZeroFrom, parts-none, parts-low, parts-high, parts-all, parts-whole}
-use Rattle.encode.proofs.shift.shifted.Statement.{statement}
-use Rattle.encode.proofs.shift.shifted.Tie as tie
+use Rattle.shift.proofs.ShiftLaws.{Parts, ZeroFrom, parts-none, parts-low, parts-high, parts-all, parts-whole}
+use Rattle.shift.proofs.shifted.Statement.{statement}
+use Rattle.shift.proofs.shifted.Tie as tie
 
 abbrev Inv-loop : tie.InvT-loop
 Inv-loop src e copy₀ q s i₀ copy i = (i ≤ length src) × Parts src e i 0 copy × ZeroFrom (i + e / 8) copy

@@ -5,9 +5,9 @@ use native.Mathlib.Omega.{arith}
 use borrow.Author.Needs.{needs}
 use Rattle.bits.specs.Bits.{bitAt}
 use Rattle.bits.proofs.UpLaws.{up-same}
-use Rattle.encode.proofs.ShiftLaws.{copy-down, into-noughts}
-use Rattle.encode.proofs.shift.add_from.Statement.{statement}
-use Rattle.encode.proofs.shift.add_from.Tie as tie
+use Rattle.shift.proofs.ShiftLaws.{copy-down, into-noughts}
+use Rattle.shift.proofs.add_from.Statement.{statement}
+use Rattle.shift.proofs.add_from.Tie as tie
 
 slice-aggregate-shift-add : tie.Need-slice-aggregate-shift-add
 slice-aggregate-shift-add c = search needs

@@ -5,9 +5,9 @@ use native.Mathlib.Omega.{arith}
 use borrow.Author.Needs.{needs}
 use lib.ListN.{length}
 use Rattle.bits.specs.Bits.{bitAt}
-use Rattle.encode.proofs.ShiftLaws.{copy-up}
-use Rattle.encode.proofs.shift.shift_add.Statement.{statement}
-use Rattle.encode.proofs.shift.shift_add.Tie as tie
+use Rattle.shift.proofs.ShiftLaws.{copy-up}
+use Rattle.shift.proofs.shift_add.Statement.{statement}
+use Rattle.shift.proofs.shift_add.Tie as tie
 
 shifted-requires : tie.Need-shifted-requires
 shifted-requires c κs = search needs
