@@ -1,4 +1,4 @@
-// The half of rebuild that touches data: the packets at hand put in their places, and the missing sources uncovered bit by bit.
+// The half of rebuild that touches data: the packets at hand put in their places, and the missing sources uncovered, bit by bit or, where one is missing, at once.
 pub mod lift;
 
 use table::Shape;
