@@ -12,7 +12,7 @@
 
 PREFIX  = /usr/local
 BOARD   = cortex-m3
-CFLAGS  = -std=c99 -O2 -Wall -Wextra -Wpedantic -Wconversion
+CFLAGS  = -std=c99 -O2 $(WARNINGS)
 
 HEADERS = include/windhawker.h include/windhawker_limits.h
 ARCHIVE = target/staticlib/libwindhawker.a
@@ -21,9 +21,10 @@ LAB     = $(patsubst lab/%.c,target/lab/%,$(wildcard lab/*.c)) target/lab/cards
 PROOFS  = $(shell find crates crates.txt -type f 2>/dev/null)
 VERSION = $(shell sed -n 's/^.define WH_VERSION "\(.*\)"/\1/p' include/windhawker.h)
 
-# The library is for x86-64. tests/machine.sh knows how any machine compiles for that.
-CC      = $(shell . tests/machine.sh && echo $${prefix}gcc)
-LDFLAGS = $(shell . tests/machine.sh && echo $$link)
+# The library is for x86-64. tools/machine.sh knows how any machine compiles for that.
+CC       = $(shell . tools/machine.sh && echo $${prefix}gcc)
+LDFLAGS  = $(shell . tools/machine.sh && echo $$link)
+WARNINGS = $(shell . tools/compilers.sh && echo $$warnings)
 
 all: $(ARCHIVE) lab
 

@@ -7,13 +7,13 @@
 #include <isa-l/erasure_code.h>
 #include <string.h>
 
-enum { PACKETS_MOST = SOURCES_MOST + PARITIES_MOST, TABLE_BYTES = 32, FILLED = 64 };
+enum { PACKETS_MOST = WH_MAX_K + WH_MAX_M, TABLE_BYTES = 32, FILLED = 64 };
 
-static uint8_t matrix[PACKETS_MOST * SOURCES_MOST];
-static uint8_t encode_tables[TABLE_BYTES * SOURCES_MOST * PARITIES_MOST];
-static uint8_t rebuild_tables[TABLE_BYTES * SOURCES_MOST * SOURCES_MOST];
-static uint8_t bytes[PACKETS_MOST][FILLED], rebuilt[SOURCES_MOST][FILLED];
-static uint8_t *packets[PACKETS_MOST], *at_hand[SOURCES_MOST], *lost[SOURCES_MOST];
+static uint8_t matrix[PACKETS_MOST * WH_MAX_K];
+static uint8_t encode_tables[TABLE_BYTES * WH_MAX_K * WH_MAX_M];
+static uint8_t rebuild_tables[TABLE_BYTES * WH_MAX_K * WH_MAX_K];
+static uint8_t bytes[PACKETS_MOST][FILLED], rebuilt[WH_MAX_K][FILLED];
+static uint8_t *packets[PACKETS_MOST], *at_hand[WH_MAX_K], *lost[WH_MAX_K];
 
 static void make_encode_tables(const job *j)
 {
@@ -23,7 +23,7 @@ static void make_encode_tables(const job *j)
 /* The rows of the packets at hand, inverted: its first rows give the lost sources. */
 static void make_rebuild_tables(const job *j)
 {
-    uint8_t rows[SOURCES_MOST * SOURCES_MOST], inverted[SOURCES_MOST * SOURCES_MOST];
+    uint8_t rows[WH_MAX_K * WH_MAX_K], inverted[WH_MAX_K * WH_MAX_K];
     memcpy(rows, matrix + j->lost * j->k, j->k * j->k);
     gf_invert_matrix(rows, inverted, (int)j->k);
     ec_init_tables((int)j->k, (int)j->lost, inverted, rebuild_tables);

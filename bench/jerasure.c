@@ -11,9 +11,9 @@ enum { WORD = 8 };
 
 /* Jerasure wants all packets to start alike, so each has 64 bytes of room. */
 enum { ROOM = 64 };
-static uint64_t bytes[SOURCES_MOST + PARITIES_MOST][ROOM / 8];
-static char *sources[SOURCES_MOST], *parities[PARITIES_MOST];
-static int erased[SOURCES_MOST + 1];
+static uint64_t bytes[WH_MAX_K + WH_MAX_M][ROOM / 8];
+static char *sources[WH_MAX_K], *parities[WH_MAX_M];
+static int erased[WH_MAX_K + 1];
 static int *matrix;
 
 static void begin(const job *j)
@@ -25,7 +25,7 @@ static void begin(const job *j)
         memcpy(bytes[i], j->sources + i * (size_t)LENGTH, LENGTH);
     }
     for (unsigned i = 0; i < j->m; i++) {
-        parities[i] = (char *)bytes[SOURCES_MOST + i];
+        parities[i] = (char *)bytes[WH_MAX_K + i];
     }
     for (unsigned i = 0; i < j->lost; i++) {
         erased[i] = (int)i;

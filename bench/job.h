@@ -10,13 +10,13 @@
 #include <stddef.h>
 #include <stdint.h>
 
-enum { LENGTH = WH_MAX_LENGTH, SOURCES_MOST = WH_MAX_K, PARITIES_MOST = WH_MAX_M };
+enum { LENGTH = WH_MAX_LENGTH };
 
 typedef struct {
     unsigned k, m, lost;
-    uint8_t table[PARITIES_MOST * SOURCES_MOST]; /* the house table, m * k bytes */
-    size_t parity_bytes;                         /* of Windhawker's parities */
-    uint8_t sources[SOURCES_MOST * LENGTH];
+    uint8_t table[WH_MAX_M * WH_MAX_K]; /* the house table, m * k bytes */
+    size_t parity_bytes;                /* of Windhawker's parities */
+    uint8_t sources[WH_MAX_K * LENGTH];
 } job;
 
 typedef struct {

@@ -36,10 +36,10 @@ void plain_encode(unsigned k, unsigned m, size_t l, const uint8_t *table, const 
 /* ---- Rebuild ---- */
 
 typedef struct {
-    unsigned rows[PARITIES_MOST], row_count;      /* parities at hand, from 0 */
-    unsigned columns[SOURCES_MOST], column_count; /* missing sources, from 0 */
-    unsigned next[SOURCES_MOST];                  /* the next bit of each missing source */
-    uint8_t rest[PARITIES_MOST][WH_LONGEST];      /* what is left of each parity at hand */
+    unsigned rows[WH_MAX_M], row_count;       /* parities at hand, from 0 */
+    unsigned columns[WH_MAX_K], column_count; /* missing sources, from 0 */
+    unsigned next[WH_MAX_K];                  /* the next bit of each missing source */
+    uint8_t rest[WH_MAX_M][WH_LONGEST];       /* what is left of each parity at hand */
 } decoding;
 
 static int bit_at(const uint8_t *bytes, unsigned p)
@@ -114,7 +114,7 @@ static bool all_zero(const decoding *d, size_t parity_bytes)
     return true;
 }
 
-/* Gives 0, or 8 when it stalls, or 10 when no sources encode to the packets. */
+/* Gives WH_DONE, or WH_STALL, or WH_FOREIGN when no sources encode to the packets. */
 int plain_rebuild(unsigned k, unsigned m, size_t l, const uint8_t *table, uint64_t marks,
                   const uint8_t *packets, size_t parity_bytes, uint8_t *sources)
 {
@@ -139,8 +139,8 @@ int plain_rebuild(unsigned k, unsigned m, size_t l, const uint8_t *table, uint64
             }
         }
         if (left == before) {
-            return 8;
+            return WH_STALL;
         }
     }
-    return all_zero(&d, parity_bytes) ? 0 : 10;
+    return all_zero(&d, parity_bytes) ? WH_DONE : WH_FOREIGN;
 }

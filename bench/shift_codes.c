@@ -4,9 +4,9 @@
 
 #include <string.h>
 
-static uint8_t parities[PARITIES_MOST * WH_LONGEST];
-static uint8_t packets[(SOURCES_MOST + PARITIES_MOST) * WH_LONGEST];
-static uint8_t rebuilt[SOURCES_MOST * LENGTH];
+static uint8_t parities[WH_MAX_M * WH_LONGEST];
+static uint8_t packets[(WH_MAX_K + WH_MAX_M) * WH_LONGEST];
+static uint8_t rebuilt[WH_MAX_K * LENGTH];
 static size_t packets_bytes;
 static uint64_t marks;
 

@@ -185,6 +185,6 @@ int main(void)
     print_rows(2, 2);
     print_rows(4, 4);
     print_rows(6, 3);
-    print_rows(8, 8);
+    print_rows(WH_MAX_K, WH_MAX_M);
     return 0;
 }

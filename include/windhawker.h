@@ -36,27 +36,32 @@
  *   decoding has stalled.
  *
  * NUMBERS
- *   Every call answers with a number. 0 means done. Anything else means refused, and is the first
- *   of these, in this order, that holds (a call makes the checks that it has the input for):
- *      1   k or m is outside 1 to 8
- *      2   l is outside 1 to 56
- *      3   the table is not m * k bytes long, or an entry is above 64
- *      6   a packet number is outside 1 to n, a source number outside 1 to k, or a mark above n
- *          is set
- *      7   the marks are not exactly k
- *     17   a progress is above 8 * l, or is not 0 for a source at hand or for a number above k
- *      4   an input buffer has not the exact length
- *      5   an output buffer has not the exact length
- *      8   stalled: no order of steps finishes all missing sources
- *      9   a parity at hand has a one above bit 8 * l + r - 1
- *     10   no sources encode to these packets
+ *   Every call answers with a number of this list; windhawker_limits.h has their names as macros.
+ *      0  WH_DONE            done
+ *   Anything else means refused, and is the first of these, in this order, that holds (a call makes
+ *   the checks that it has the input for):
+ *      1  WH_SIZE            k or m is outside 1 to 8
+ *      2  WH_LENGTH          l is outside 1 to 56
+ *      3  WH_TABLE           the table is not m * k bytes long, or an entry is above 64
+ *      6  WH_PACKET          a packet number is outside 1 to n, a source number outside 1 to k,
+ *                            or a mark above n is set
+ *      7  WH_MARKS           the marks are not exactly k
+ *     17  WH_PROGRESS        a progress is above 8 * l, or is not 0 for a source at hand or for a
+ *                            number above k
+ *      4  WH_INPUT           an input buffer has not the exact length
+ *      5  WH_OUTPUT          an output buffer has not the exact length
+ *      8  WH_STALL           stalled: no order of steps finishes all missing sources
+ *      9  WH_STRAY           a parity at hand has a one above bit 8 * l + r - 1
+ *     10  WH_FOREIGN         no sources encode to these packets
  *   and for a block from a card reader, in this order:
- *     11   fewer than 4 bytes
- *     12   its length byte LEN is 255, which is reserved
- *     13   it is not LEN + 4 bytes long
- *     14   the XOR of all its bytes is not 0
- *     15   NAD is not 00, or PCB is neither 00 nor 40 hex
- *     16   LEN is above the length of the destination
+ *     11  WH_BLOCK_SHORT     fewer than 4 bytes
+ *     12  WH_BLOCK_RESERVED  its length byte LEN is 255, which is reserved
+ *     13  WH_BLOCK_LENGTH    it is not LEN + 4 bytes long
+ *     14  WH_BLOCK_SUM       the XOR of all its bytes is not 0
+ *     15  WH_BLOCK_HEADER    NAD is not 00, or PCB is neither 00 nor 40 hex
+ *     16  WH_ROOM            LEN is above the length of the destination
+ *   The program class_sheet has one more, before all others:
+ *     18  WH_LINE            its input is not one line `k m L`
  *
  * WHAT YOU LEND
  *   A buffer is a pointer and its length in bytes, always in that order. No call reads or writes
@@ -81,31 +86,43 @@
 extern "C" {
 #endif
 
+/* A limit as text, for messages: "1 to " WH_TEXT(WH_MAX_K). */
+#define WH_TEXT(limit) WH_DIGITS(limit)
+#define WH_DIGITS(digits) #digits
+
 /* What a number means, in a few words. */
 static inline const char *wh_meaning(uint64_t number)
 {
-    static const char *const meanings[] = {
-        "done",
-        "k or m is outside 1 to 8",
-        "the source length is outside 1 to 56",
-        "the table has a wrong length or an entry above 64",
-        "an input buffer has a wrong length",
-        "an output buffer has a wrong length",
-        "no such packet, source or mark",
-        "the marks are not exactly k",
-        "the decoding stalls",
-        "a parity has a one above its last bit",
-        "no sources encode to these packets",
-        "the block has fewer than 4 bytes",
-        "the block's length byte is 255",
-        "the block is not as long as its length byte says",
-        "the block's bytes do not XOR to 0",
-        "the block's first two bytes are not those of a lone block",
-        "the block does not fit into the destination",
-        "progress that no source can have",
+    static const struct {
+        uint64_t number;
+        const char *meaning;
+    } list[] = {
+        {WH_DONE, "done"},
+        {WH_SIZE, "k or m is outside 1 to " WH_TEXT(WH_MAX_K)},
+        {WH_LENGTH, "the source length is outside 1 to " WH_TEXT(WH_MAX_LENGTH)},
+        {WH_TABLE, "the table has a wrong length or an entry above " WH_TEXT(WH_MAX_SHIFT)},
+        {WH_INPUT, "an input buffer has a wrong length"},
+        {WH_OUTPUT, "an output buffer has a wrong length"},
+        {WH_PACKET, "no such packet, source or mark"},
+        {WH_MARKS, "the marks are not exactly k"},
+        {WH_STALL, "the decoding stalls"},
+        {WH_STRAY, "a parity has a one above its last bit"},
+        {WH_FOREIGN, "no sources encode to these packets"},
+        {WH_BLOCK_SHORT, "the block has fewer than 4 bytes"},
+        {WH_BLOCK_RESERVED, "the block's length byte is 255"},
+        {WH_BLOCK_LENGTH, "the block is not as long as its length byte says"},
+        {WH_BLOCK_SUM, "the block's bytes do not XOR to 0"},
+        {WH_BLOCK_HEADER, "the block's first two bytes are not those of a lone block"},
+        {WH_ROOM, "the block does not fit into the destination"},
+        {WH_PROGRESS, "progress that no source can have"},
+        {WH_LINE, "the input is not one line `k m L`"},
     };
-    return number < sizeof meanings / sizeof meanings[0] ? meanings[number]
-                                                         : "no number of the list";
+    for (size_t i = 0; i < sizeof list / sizeof list[0]; i++) {
+        if (list[i].number == number) {
+            return list[i].meaning;
+        }
+    }
+    return "no number of the list";
 }
 
 /* The library wants a place even for no bytes, so NULL with length 0 becomes the place of one. */
@@ -283,7 +300,7 @@ uint64_t whx_look(uint64_t k, uint64_t m, uint64_t l, const uint8_t *table, uint
                   uint64_t *length);
 
 /* Writes all k sources, source 1 first, k * l bytes, from the k packets at hand, and gives the
- * steps it took. With number 8 the count is the steps made before the stall; with any other
+ * steps it took. With WH_STALL the count is the steps made before the stall; with any other
  * refusal it is 0. Checks 1 2 3 6 7 4 5 8 9 10. */
 static inline wh_rebuilt wh_rebuild(uint64_t k, uint64_t m, uint64_t l, const uint8_t *table,
                                     size_t table_len, uint64_t marks, const uint8_t *packets,

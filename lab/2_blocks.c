@@ -30,14 +30,14 @@ static const handed_over reader[] = {
 static const char *what_to_do(uint64_t number)
 {
     switch (number) {
-    case 11: /* too short to be a block */
-    case 12: /* a length that no block has */
-    case 13: /* not as long as it says */
-    case 14: /* damaged */
+    case WH_BLOCK_SHORT:
+    case WH_BLOCK_RESERVED:
+    case WH_BLOCK_LENGTH:
+    case WH_BLOCK_SUM:
         return "ask the card for the block again";
-    case 15: /* another kind of block */
+    case WH_BLOCK_HEADER: /* another kind of block */
         return "the card hands over no whole packet";
-    case 16: /* too long */
+    case WH_ROOM:
         return "this card belongs to longer sources";
     default:
         return "this number is new to the program";
@@ -49,7 +49,7 @@ static void take(const handed_over *from, uint8_t *packet)
     wh_taken taken = wh_block(from->bytes, from->length, packet, PACKET);
     printf("\n%-24s ", from->what);
     print_bytes(from->bytes, from->length);
-    if (taken.number != 0) {
+    if (taken.number != WH_DONE) {
         printf("\n  refused, %" PRIu64 ": %s\n  so: %s\n", taken.number, wh_meaning(taken.number),
                what_to_do(taken.number));
     } else if (taken.length != PACKET) {

@@ -37,7 +37,7 @@ static void show_rebuilt(uint64_t marks, const uint8_t *packets, size_t length)
         wh_rebuild(K, M, L, table, sizeof table, marks, packets, length, rebuilt, sizeof rebuilt);
     printf("cards");
     print_marks(marks);
-    if (done.number != 0) {
+    if (done.number != WH_DONE) {
         printf(": refused, %" PRIu64 ": %s\n", done.number, wh_meaning(done.number));
         return;
     }

@@ -16,7 +16,7 @@ static const char help[] =
     "read looks which card files are there and writes LOG from the first K of them. A card file\n"
     "that is not as long as LENGTH wants it counts as lost.\n"
     "\n"
-    "K and M are 1 to 8, L is 1 to 56.\n";
+    "K and M are 1 to " WH_TEXT(WH_MAX_K) ", L is 1 to " WH_TEXT(WH_MAX_LENGTH) ".\n";
 
 typedef struct {
     uint64_t k, m, l;
@@ -194,7 +194,7 @@ static void read_stripes(const code *c, uint64_t marks, FILE *const *cards, uint
         size_t got = read_packets(c, marks, cards, packets);
         wh_rebuilt rebuilt = wh_rebuild(c->k, c->m, c->l, c->table, c->table_len, marks, packets,
                                         got, sources, c->stripe);
-        if (rebuilt.number != 0) {
+        if (rebuilt.number != WH_DONE) {
             fprintf(stderr, "cards: stripe %" PRIu64 ": %" PRIu64 ", %s\n", read / c->stripe + 1,
                     rebuilt.number, wh_meaning(rebuilt.number));
             fclose(log);

@@ -28,10 +28,10 @@ static inline void print_bytes(const uint8_t *bytes, size_t length)
     }
 }
 
-/* Every call gives a number. Where only 0 will do, this ends the program on any other. */
+/* Every call gives a number. Where only WH_DONE will do, this ends the program on any other. */
 static inline void must(uint64_t number, const char *call)
 {
-    if (number != 0) {
+    if (number != WH_DONE) {
         fprintf(stderr, "%s refused, %" PRIu64 ": %s\n", call, number, wh_meaning(number));
         exit(1);
     }

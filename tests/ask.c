@@ -1,7 +1,7 @@
 #include "ask.h"
 
 #include "check.h"
-#include "draw.h"
+#include "draw_question.h"
 #include "random.h"
 
 #include <inttypes.h>

@@ -3,7 +3,7 @@
 #define CALLS_BLOCK_H
 
 #include "ask.h"
-#include "draw.h"
+#include "draw_question.h"
 #include "windhawker.h"
 
 static inline answer ask_block(const question *q, const lent *at)

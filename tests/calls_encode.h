@@ -3,7 +3,7 @@
 #define CALLS_ENCODE_H
 
 #include "ask.h"
-#include "draw.h"
+#include "draw_question.h"
 #include "windhawker.h"
 
 static inline answer ask_encode_all(const question *q, const lent *at)

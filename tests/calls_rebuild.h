@@ -3,7 +3,7 @@
 #define CALLS_REBUILD_H
 
 #include "ask.h"
-#include "draw.h"
+#include "draw_question.h"
 #include "windhawker.h"
 
 static inline answer ask_rebuild(const question *q, const lent *at)
@@ -33,5 +33,18 @@ static inline answer ask_look(const question *q, const lent *at)
 static const call rebuild_call = {"rebuild", ask_rebuild, model_rebuild, draw_for_rebuild};
 static const call repair_call = {"repair", ask_repair, model_repair, draw_for_repair};
 static const call look_call = {"look", ask_look, model_look, draw_for_look};
+
+/* Compares rebuild at damaged packets of any size, of short sources. */
+static inline void compare_damaged(int questions)
+{
+    question q;
+    for (int i = 0; i < questions; i++) {
+        draw_small_shape(&q, WH_MAX_K, 2);
+        draw_marks(&q);
+        fit_survivors(&q, q.k * q.l);
+        damage(&q.input);
+        compare(&rebuild_call, &q);
+    }
+}
 
 #endif

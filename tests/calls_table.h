@@ -3,7 +3,7 @@
 #define CALLS_TABLE_H
 
 #include "ask.h"
-#include "draw.h"
+#include "draw_question.h"
 #include "windhawker.h"
 
 static inline answer ask_family_table(const question *q, const lent *at)

@@ -3,7 +3,7 @@
 #define CALLS_WALK_H
 
 #include "ask.h"
-#include "draw.h"
+#include "draw_question.h"
 #include "windhawker.h"
 
 #include <string.h>

@@ -1,5 +1,6 @@
 # shellcheck shell=sh disable=SC2034
-# How a script tests: a script reads this file, calls check for each test and exits with $status.
+# How a script tests: it reads this file, calls check for each test and exits with $status. One that
+# gathers the results of many says them, which keeps them in the file $results, and adds them up.
 
 status=0
 
@@ -13,4 +14,16 @@ check() { # NAME COMMAND WORDS...
         echo "FAIL $name: $(echo "$complaint" | head -n 5 | tr '\n' ' ')"
         status=1
     fi
+}
+
+say() {
+    echo "$*" | tee -a "$results"
+}
+
+# Prints the last line of all; fails unless all passed.
+add_up() {
+    passed=$(grep -c '^ok ' "$results")
+    failed=$(grep -c '^FAIL ' "$results")
+    echo "$passed passed, $failed failed"
+    [ "$failed" -eq 0 ] && [ "$passed" -gt 0 ]
 }

@@ -21,7 +21,7 @@ static void every_byte_at_every_shift(void)
 {
     question q = house_question(1, 1, 1);
     q.input.length = 1;
-    for (int shift = 0; shift <= 64; shift++) {
+    for (int shift = 0; shift <= WH_MAX_SHIFT; shift++) {
         for (int byte = 0; byte < 256; byte++) {
             q.table.at[0] = (uint8_t)shift;
             q.input.at[0] = (uint8_t)byte;
@@ -34,10 +34,10 @@ static void every_byte_at_every_shift(void)
 static void every_length_at_every_shift(void)
 {
     question q = house_question(1, 1, 1);
-    for (q.l = 1; q.l <= 56; q.l++) {
+    for (q.l = 1; q.l <= WH_MAX_LENGTH; q.l++) {
         q.input.length = (size_t)q.l;
         memset(q.input.at, 0xFF, q.input.length);
-        for (int shift = 0; shift <= 64; shift++) {
+        for (int shift = 0; shift <= WH_MAX_SHIFT; shift++) {
             q.table.at[0] = (uint8_t)shift;
             compare_all_packets(&q);
         }
@@ -59,9 +59,9 @@ static void every_single_one(void)
 static void house_tables_of_every_size(void)
 {
     question q = {0};
-    for (q.k = 1; q.k <= 8; q.k++) {
-        for (q.m = 1; q.m <= 8; q.m++) {
-            q.l = random_between(1, 56);
+    for (q.k = 1; q.k <= WH_MAX_K; q.k++) {
+        for (q.m = 1; q.m <= WH_MAX_M; q.m++) {
+            q.l = random_between(1, WH_MAX_LENGTH);
             set_house_table(&q);
             set_bytes(&q.input, q.k * q.l);
             compare_all_packets(&q);
@@ -71,11 +71,11 @@ static void house_tables_of_every_size(void)
 
 static void at_the_limits(void)
 {
-    question q = house_question(8, 8, 56);
+    question q = largest_question();
     for (int i = 0; i < 20; i++) {
         set_house_table(&q);
-        q.table.at[random_below(64)] = 64;
-        set_bytes(&q.input, 8 * 56);
+        q.table.at[random_below(q.table.length)] = WH_MAX_SHIFT;
+        set_bytes(&q.input, q.k * q.l);
         compare_all_packets(&q);
     }
 }
@@ -84,10 +84,10 @@ static void at_the_limits(void)
 static void equal_sources_cancel(void)
 {
     question q = house_question(2, 1, 1);
-    for (q.l = 1; q.l <= 56; q.l++) {
+    for (q.l = 1; q.l <= WH_MAX_LENGTH; q.l++) {
         set_bytes(&q.input, 2 * q.l);
         memcpy(q.input.at + q.l, q.input.at, q.l);
-        q.table.at[0] = q.table.at[1] = (uint8_t)random_below(65);
+        q.table.at[0] = q.table.at[1] = (uint8_t)random_below(WH_MAX_SHIFT + 1);
         compare_all_packets(&q);
     }
 }

@@ -1,7 +1,7 @@
 #include "example.h"
 
 #include "check.h"
-#include "draw.h"
+#include "draw_question.h"
 
 #include <stdlib.h>
 #include <string.h>

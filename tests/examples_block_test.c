@@ -31,8 +31,8 @@ static void block_of_no_bytes(void)
 
 static void block_len_FF_is_12(void)
 {
-    refuses(&block_call, block("00 00 FF 00"), refused(12), 64);
-    refuses(&block_call, block("21 80 FF 00 00 00 07"), refused(12), 0);
+    refuses(&block_call, block("00 00 FF 00"), refused(WH_BLOCK_RESERVED), 64);
+    refuses(&block_call, block("21 80 FF 00 00 00 07"), refused(WH_BLOCK_RESERVED), 0);
 }
 
 static void block_len_65_into_64_is_16(void)
@@ -41,23 +41,23 @@ static void block_len_65_into_64_is_16(void)
     memset(q.input.at + 3, 0, 65);
     q.input.at[68] = 0x41;
     q.input.length = 69;
-    refuses(&block_call, q, refused(16), 64);
+    refuses(&block_call, q, refused(WH_ROOM), 64);
 }
 
 static void block_numbers_in_order(void)
 {
-    refuses(&block_call, block("01 01 FF"), refused(11), 0);
-    refuses(&block_call, block("01 01 02 00"), refused(13), 0);
-    refuses(&block_call, block("01 01 00 01"), refused(14), 0);
-    refuses(&block_call, block("01 00 01 00 00"), refused(15), 0);
-    refuses(&block_call, block("00 00 01 00 01"), refused(16), 0);
+    refuses(&block_call, block("01 01 FF"), refused(WH_BLOCK_SHORT), 0);
+    refuses(&block_call, block("01 01 02 00"), refused(WH_BLOCK_LENGTH), 0);
+    refuses(&block_call, block("01 01 00 01"), refused(WH_BLOCK_SUM), 0);
+    refuses(&block_call, block("01 00 01 00 00"), refused(WH_BLOCK_HEADER), 0);
+    refuses(&block_call, block("00 00 01 00 01"), refused(WH_ROOM), 0);
 }
 
 static void block_r_and_s_are_15(void)
 {
-    refuses(&block_call, block("00 80 00 80"), refused(15), 4);
-    refuses(&block_call, block("00 C0 00 C0"), refused(15), 4);
-    refuses(&block_call, block("00 20 00 20"), refused(15), 4);
+    refuses(&block_call, block("00 80 00 80"), refused(WH_BLOCK_HEADER), 4);
+    refuses(&block_call, block("00 C0 00 C0"), refused(WH_BLOCK_HEADER), 4);
+    refuses(&block_call, block("00 20 00 20"), refused(WH_BLOCK_HEADER), 4);
 }
 
 int main(void)

@@ -23,20 +23,20 @@ static void encode_one_source_is_a_copy(void)
     question q = with_input(example(), "80 C0");
     q.packet = 2;
     gives(&encode_one_call, q, done(), "C0");
-    refuses(&encode_one_call, q, refused(5), 2);
+    refuses(&encode_one_call, q, refused(WH_OUTPUT), 2);
 }
 
 static void encode_one_of_packet_99_is_6(void)
 {
     question q = with_input(example(), "80");
     q.packet = 99;
-    refuses(&encode_one_call, q, refused(6), 7);
+    refuses(&encode_one_call, q, refused(WH_PACKET), 7);
 }
 
 static void encode_input_before_output(void)
 {
     question q = with_input(example(), "80 C0 00");
-    refuses(&encode_all_call, q, refused(4), 5);
+    refuses(&encode_all_call, q, refused(WH_INPUT), 5);
 }
 
 int main(void)

@@ -22,22 +22,22 @@ static void rebuild_marks_3_counts_0(void)
 
 static void rebuild_stray_one_is_9(void)
 {
-    refuses(&rebuild_call, with_marks(example(), 12, "03 00 05 04"), refused(9), 2);
+    refuses(&rebuild_call, with_marks(example(), 12, "03 00 05 04"), refused(WH_STRAY), 2);
 }
 
 static void rebuild_no_sources_is_10(void)
 {
-    refuses(&rebuild_call, with_marks(example(), 12, "03 00 05 01"), refused(10), 2);
+    refuses(&rebuild_call, with_marks(example(), 12, "03 00 05 01"), refused(WH_FOREIGN), 2);
 }
 
 static void rebuild_9_goes_by_the_whole_table(void)
 {
-    refuses(&rebuild_call, with_marks(example(), 12, "00 02 00 00"), refused(10), 2);
+    refuses(&rebuild_call, with_marks(example(), 12, "00 02 00 00"), refused(WH_FOREIGN), 2);
 }
 
 static void rebuild_bit_that_no_step_reads(void)
 {
-    refuses(&rebuild_call, with_marks(example(), 9, "01 04 00"), refused(10), 2);
+    refuses(&rebuild_call, with_marks(example(), 9, "01 04 00"), refused(WH_FOREIGN), 2);
 }
 
 static void rebuild_zeros_are_steps_too(void)
@@ -55,13 +55,13 @@ static void rebuild_reads_at_the_shift(void)
 static void rebuild_tie_is_8_after_7(void)
 {
     question q = with_marks(with_table(2, 2, "00 07 00 07"), 12, "00 00 00 00");
-    refuses(&rebuild_call, q, numbered(8, 7), 2);
+    refuses(&rebuild_call, q, numbered(WH_STALL, 7), 2);
 }
 
 static void rebuild_stall_before_damage(void)
 {
     question q = with_marks(with_table(2, 2, "00 07 00 07"), 12, "FF FF FF FF");
-    refuses(&rebuild_call, q, numbered(8, 7), 2);
+    refuses(&rebuild_call, q, numbered(WH_STALL, 7), 2);
 }
 
 static void rebuild_finished_source_covers_nothing(void)
@@ -72,15 +72,15 @@ static void rebuild_finished_source_covers_nothing(void)
 
 static void rebuild_three_rows_is_8_after_0(void)
 {
-    question q =
-        with_marks(with_table(3, 3, "00 00 05 00 05 00 05 00 00"), 56, "00 00 00 00 00 00");
-    refuses(&rebuild_call, q, refused(8), 3);
+    question q = with_input(with_table(3, 3, "00 00 05 00 05 00 05 00 00"), "00 00 00 00 00 00");
+    lose_every_source(&q);
+    refuses(&rebuild_call, q, refused(WH_STALL), 3);
 }
 
 static void rebuild_marks_before_lengths(void)
 {
-    refuses(&rebuild_call, with_marks(example(), 15, "00"), refused(7), 9);
-    refuses(&rebuild_call, with_marks(example(), 0x18, "00"), refused(6), 9);
+    refuses(&rebuild_call, with_marks(example(), 15, "00"), refused(WH_MARKS), 9);
+    refuses(&rebuild_call, with_marks(example(), 0x18, "00"), refused(WH_PACKET), 9);
 }
 
 static void repair_each_packet(void)
@@ -96,14 +96,14 @@ static void repair_of_packet_at_hand_still_rebuilds(void)
 {
     question q = with_marks(example(), 12, "03 00 05 01");
     q.packet = 3;
-    refuses(&repair_call, q, refused(10), 2);
+    refuses(&repair_call, q, refused(WH_FOREIGN), 2);
 }
 
 static void repair_gives_no_count_on_a_stall(void)
 {
     question q = with_marks(with_table(2, 2, "00 07 00 07"), 12, "00 00 00 00");
     q.packet = 1;
-    refuses(&repair_call, q, refused(8), 1);
+    refuses(&repair_call, q, refused(WH_STALL), 1);
 }
 
 static answer look_answer(uint64_t buffer, uint64_t start)
@@ -123,7 +123,7 @@ static void look_chooses_by_the_mark(void)
     q.source = 2;
     gives(&look_call, q, look_answer(1, 0), "");
     q.source = 3;
-    gives(&look_call, q, refused(6), "");
+    gives(&look_call, q, refused(WH_PACKET), "");
 }
 
 int main(void)

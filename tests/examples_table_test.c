@@ -14,7 +14,7 @@ static void family_table_3_3(void)
 
 static void family_table_into_a_wrong_buffer(void)
 {
-    refuses(&family_table_call, example(), refused(5), 3);
+    refuses(&family_table_call, example(), refused(WH_OUTPUT), 3);
 }
 
 static void judge_house_table(void)
@@ -34,48 +34,49 @@ static void judge_one_row_or_one_column(void)
     gives(&judge_call, with_table(1, 3, "05 00 09"), done_with(1), "");
 }
 
-static void entry_64_taken_65_refused(void)
+static void largest_entry_taken_one_more_refused(void)
 {
-    question q = with_table(2, 2, "00 01 00 40");
+    question q = example();
+    q.table.at[3] = WH_MAX_SHIFT;
     gives(&judge_call, q, done_with(1), "");
-    q.table.at[3] = 65;
-    gives(&judge_call, q, refused(3), "");
+    q.table.at[3] = WH_MAX_SHIFT + 1;
+    gives(&judge_call, q, refused(WH_TABLE), "");
 }
 
-static void length_56_taken_57_refused(void)
+static void longest_source_taken_one_more_refused(void)
 {
-    question q = house_question(2, 2, 56);
+    question q = house_question(2, 2, WH_MAX_LENGTH);
     q.packet = 1;
-    gives(&packet_length_call, q, done_with(56), "");
+    gives(&packet_length_call, q, done_with(WH_MAX_LENGTH), "");
     q.packet = 3;
-    gives(&packet_length_call, q, done_with(57), "");
-    q.l = 57;
-    gives(&packet_length_call, q, refused(2), "");
+    gives(&packet_length_call, q, done_with(WH_MAX_LENGTH + 1), "");
+    q.l = WH_MAX_LENGTH + 1;
+    gives(&packet_length_call, q, refused(WH_LENGTH), "");
 }
 
-static void longest_parity_is_64_bytes(void)
+static void longest_parity_is_reached(void)
 {
-    question q = house_question(8, 8, 56);
-    q.packet = 9;
-    gives(&packet_length_call, q, done_with(63), "");
-    q.table.at[0] = 64;
-    gives(&packet_length_call, q, done_with(64), "");
+    question q = largest_question();
+    q.packet = WH_MAX_K + 1;
+    gives(&packet_length_call, q, done_with(WH_LONGEST - 1), "");
+    q.table.at[0] = WH_MAX_SHIFT;
+    gives(&packet_length_call, q, done_with(WH_LONGEST), "");
 }
 
 static void marks_16_refused_with_6(void)
 {
-    gives(&survivors_length_call, with_marks(example(), 16, ""), refused(6), "");
+    gives(&survivors_length_call, with_marks(example(), 16, ""), refused(WH_PACKET), "");
 }
 
 static void marks_7_refused_with_7(void)
 {
-    gives(&survivors_length_call, with_marks(example(), 7, ""), refused(7), "");
-    gives(&survivors_length_call, with_marks(example(), 0, ""), refused(7), "");
+    gives(&survivors_length_call, with_marks(example(), 7, ""), refused(WH_MARKS), "");
+    gives(&survivors_length_call, with_marks(example(), 0, ""), refused(WH_MARKS), "");
 }
 
 static void marks_are_not_cut_to_16_bits(void)
 {
-    gives(&survivors_length_call, with_marks(example(), 0x1000C, ""), refused(6), "");
+    gives(&survivors_length_call, with_marks(example(), 0x1000C, ""), refused(WH_PACKET), "");
     gives(&survivors_length_call, with_marks(example(), 0xC, ""), done_with(4), "");
 }
 
@@ -87,9 +88,9 @@ int main(void)
         {"example_judge_house_table", judge_house_table},
         {"example_judge_says_no_of_decodable_table", judge_says_no_of_decodable_table},
         {"example_judge_one_row_or_one_column", judge_one_row_or_one_column},
-        {"example_entry_64_taken_65_refused", entry_64_taken_65_refused},
-        {"example_length_56_taken_57_refused", length_56_taken_57_refused},
-        {"example_longest_parity_is_64_bytes", longest_parity_is_64_bytes},
+        {"example_largest_entry_taken_one_more_refused", largest_entry_taken_one_more_refused},
+        {"example_longest_source_taken_one_more_refused", longest_source_taken_one_more_refused},
+        {"example_longest_parity_is_reached", longest_parity_is_reached},
         {"example_marks_16_refused_with_6", marks_16_refused_with_6},
         {"example_marks_7_refused_with_7", marks_7_refused_with_7},
         {"example_marks_are_not_cut_to_16_bits", marks_are_not_cut_to_16_bits},

@@ -42,7 +42,8 @@ static void walk_finished_source_covers_nothing(void)
 
 static void walk_three_rows_stall_at_once(void)
 {
-    question q = with_marks(with_table(3, 3, "00 00 05 00 05 00 05 00 00"), 56, "");
+    question q = with_table(3, 3, "00 00 05 00 05 00 05 00 00");
+    lose_every_source(&q);
     gives(&walk_call, q, walk_answer(0, 0, 0, 0), "");
 }
 
@@ -68,14 +69,14 @@ static void step_refuses_progress_with_17(void)
 {
     question q = with_marks(example(), 12, "");
     q.progress[0] = 9;
-    gives(&next_step_call, q, refused(17), "");
+    gives(&next_step_call, q, refused(WH_PROGRESS), "");
     q.progress[0] = 8;
     gives(&next_step_call, q, walk_answer(1, 2, 8, 1), "");
     q.progress[2] = 1;
-    gives(&next_step_call, q, refused(17), "");
+    gives(&next_step_call, q, refused(WH_PROGRESS), "");
     q.progress[2] = 0;
     q.marks = 9;
-    gives(&next_step_call, q, refused(17), "");
+    gives(&next_step_call, q, refused(WH_PROGRESS), "");
 }
 
 int main(void)

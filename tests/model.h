@@ -1,14 +1,13 @@
 /* What every call should answer, in plain C and straight from the rules, as slow as it likes.
- * Nothing of the library is used. Sources, parities and packets are numbered from 1, as in the
- * rules. A model call writes its output only when it is done. */
+ * Nothing of the library is used but the names of the limits and of the numbers, which pinned_test
+ * holds to the rules. Sources, parities and packets are numbered from 1, as in the rules. A model
+ * call writes its output only when it is done. */
 #ifndef MODEL_H
 #define MODEL_H
 
 #include "question.h"
 
 #include <stdbool.h>
-
-enum { SOURCES_MOST = 8, PARITIES_MOST = 8, LENGTH_MOST = 56, SHIFT_MOST = 64 };
 
 typedef answer model_call(const question *q, uint8_t *output);
 
@@ -25,10 +24,11 @@ model_call model_repair;           /* results: none */
 model_call model_look;             /* results: buffer, start, length */
 model_call model_block;            /* results: length */
 
-/* The shape: the number of the first check among 1 2 3 (or 1 2 3 6 7) that refuses, else 0. */
+/* The shape: the number of the first check among 1 2 3 (or 1 2 3 6 7) that refuses, or WH_DONE. */
 uint64_t shape_number(const question *q);
 uint64_t marked_shape_number(const question *q);
 bool bad_size(const question *q);
+bool bad_length(const question *q);
 bool bad_table(const question *q);
 bool bad_packet(const question *q);
 
@@ -49,7 +49,7 @@ void encode_survivors(const question *q, const uint8_t *sources, uint8_t *out);
 /* A walk: steps made and progress, that of source b at progress[b - 1]. */
 typedef struct {
     uint64_t count;
-    uint64_t progress[8];
+    uint64_t progress[WH_MAX_K];
 } walked;
 
 bool bare(const question *q, const uint64_t *progress, uint64_t a, uint64_t b);

@@ -15,22 +15,22 @@ answer model_block(const question *q, uint8_t *output)
 {
     const uint8_t *block = q->input.at;
     if (q->input.length < 4) {
-        return refused(11);
+        return refused(WH_BLOCK_SHORT);
     }
     if (block[2] == 255) {
-        return refused(12);
+        return refused(WH_BLOCK_RESERVED);
     }
     if (q->input.length != (size_t)block[2] + 4) {
-        return refused(13);
+        return refused(WH_BLOCK_LENGTH);
     }
     if (xor_of_all(&q->input) != 0) {
-        return refused(14);
+        return refused(WH_BLOCK_SUM);
     }
     if (block[0] != 0 || (block[1] != 0 && block[1] != 0x40)) {
-        return refused(15);
+        return refused(WH_BLOCK_HEADER);
     }
     if (block[2] > q->output.length) {
-        return refused(16);
+        return refused(WH_ROOM);
     }
     memcpy(output, block + 3, block[2]);
     return done_with(block[2]);

@@ -50,15 +50,15 @@ void encode_survivors(const question *q, const uint8_t *sources, uint8_t *out)
 answer model_encode_all(const question *q, uint8_t *output)
 {
     uint64_t number = shape_number(q);
-    if (number != 0) {
+    if (number != WH_DONE) {
         return refused(number);
     }
     uint64_t length = packet_bytes(q, q->k + 1);
     if (q->input.length != q->k * q->l) {
-        return refused(4);
+        return refused(WH_INPUT);
     }
     if (q->output.length != q->m * length) {
-        return refused(5);
+        return refused(WH_OUTPUT);
     }
     for (uint64_t a = 1; a <= q->m; a++) {
         encode_parity(q, q->input.at, a, output + (a - 1) * length);
@@ -69,17 +69,17 @@ answer model_encode_all(const question *q, uint8_t *output)
 answer model_encode_one(const question *q, uint8_t *output)
 {
     uint64_t number = shape_number(q);
-    if (number != 0) {
+    if (number != WH_DONE) {
         return refused(number);
     }
     if (bad_packet(q)) {
-        return refused(6);
+        return refused(WH_PACKET);
     }
     if (q->input.length != q->k * q->l) {
-        return refused(4);
+        return refused(WH_INPUT);
     }
     if (q->output.length != packet_bytes(q, q->packet)) {
-        return refused(5);
+        return refused(WH_OUTPUT);
     }
     encode_packet(q, q->input.at, q->packet, output);
     return done();

@@ -6,8 +6,8 @@
 #include <string.h>
 
 enum {
-    UNKNOWNS_MOST = SOURCES_MOST * 8 * LENGTH_MOST,
-    EQUATIONS_MOST = PARITIES_MOST * (8 * LENGTH_MOST + SHIFT_MOST)
+    UNKNOWNS_MOST = WH_MAX_K * 8 * WH_MAX_LENGTH,
+    EQUATIONS_MOST = WH_MAX_M * (8 * WH_MAX_LENGTH + WH_MAX_SHIFT)
 };
 
 /* Equation i, one byte for each coefficient and one for the right side, starts at
@@ -177,59 +177,59 @@ static answer rebuild_sources(const question *q, uint8_t *sources)
 {
     walked walk = walk_lowest_first(q);
     if (!whole(q, &walk)) {
-        return numbered(8, walk.count);
+        return numbered(WH_STALL, walk.count);
     }
     if (stray_one(q)) {
-        return refused(9);
+        return refused(WH_STRAY);
     }
-    return solve(q, sources) ? done_with(walk.count) : refused(10);
+    return solve(q, sources) ? done_with(walk.count) : refused(WH_FOREIGN);
 }
 
 answer model_rebuild(const question *q, uint8_t *output)
 {
-    uint8_t sources[SOURCES_MOST * LENGTH_MOST];
+    uint8_t sources[WH_MAX_K * WH_MAX_LENGTH];
     uint64_t number = marked_shape_number(q);
-    if (number != 0) {
+    if (number != WH_DONE) {
         return refused(number);
     }
     if (q->input.length != survivors_bytes(q)) {
-        return refused(4);
+        return refused(WH_INPUT);
     }
     if (q->output.length != q->k * q->l) {
-        return refused(5);
+        return refused(WH_OUTPUT);
     }
     answer given = rebuild_sources(q, sources);
-    if (given.number == 0) {
+    if (given.number == WH_DONE) {
         memcpy(output, sources, q->k * q->l);
     }
     return given;
 }
 
-/* 6 for the packet or source asked for stands beside 6 for the marks, before 7. */
+/* WH_PACKET for the packet or source asked for stands beside that of the marks. */
 static uint64_t asked_number(const question *q, uint64_t asked, uint64_t most)
 {
     uint64_t number = shape_number(q);
-    if (number != 0) {
+    if (number != WH_DONE) {
         return number;
     }
-    return asked < 1 || asked > most ? 6 : marked_shape_number(q);
+    return asked < 1 || asked > most ? WH_PACKET : marked_shape_number(q);
 }
 
 answer model_repair(const question *q, uint8_t *output)
 {
-    uint8_t sources[SOURCES_MOST * LENGTH_MOST];
+    uint8_t sources[WH_MAX_K * WH_MAX_LENGTH];
     uint64_t number = asked_number(q, q->packet, q->k + q->m);
-    if (number != 0) {
+    if (number != WH_DONE) {
         return refused(number);
     }
     if (q->input.length != survivors_bytes(q)) {
-        return refused(4);
+        return refused(WH_INPUT);
     }
     if (q->output.length != packet_bytes(q, q->packet)) {
-        return refused(5);
+        return refused(WH_OUTPUT);
     }
     answer given = rebuild_sources(q, sources);
-    if (given.number == 0) {
+    if (given.number == WH_DONE) {
         encode_packet(q, sources, q->packet, output);
     }
     return refused(given.number);
@@ -239,11 +239,11 @@ answer model_look(const question *q, uint8_t *output)
 {
     uint64_t number = asked_number(q, q->source, q->k);
     (void)output;
-    if (number != 0) {
+    if (number != WH_DONE) {
         return refused(number);
     }
     if (q->input.length != survivors_bytes(q) || q->rebuilt.length != q->k * q->l) {
-        return refused(4);
+        return refused(WH_INPUT);
     }
     bool present = at_hand(q, q->source);
     answer given = done_with(present ? 1 : 2);

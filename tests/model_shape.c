@@ -2,12 +2,12 @@
 
 bool bad_size(const question *q)
 {
-    return q->k < 1 || q->k > SOURCES_MOST || q->m < 1 || q->m > PARITIES_MOST;
+    return q->k < 1 || q->k > WH_MAX_K || q->m < 1 || q->m > WH_MAX_M;
 }
 
-static bool bad_length(const question *q)
+bool bad_length(const question *q)
 {
-    return q->l < 1 || q->l > LENGTH_MOST;
+    return q->l < 1 || q->l > WH_MAX_LENGTH;
 }
 
 bool bad_table(const question *q)
@@ -15,7 +15,7 @@ bool bad_table(const question *q)
     if (q->table.length != q->m * q->k) {
         return true;
     }
-    return largest_entry(q) > SHIFT_MOST;
+    return largest_entry(q) > WH_MAX_SHIFT;
 }
 
 bool bad_packet(const question *q)
@@ -45,24 +45,24 @@ static uint64_t marks_set(const question *q)
 uint64_t shape_number(const question *q)
 {
     if (bad_size(q)) {
-        return 1;
+        return WH_SIZE;
     }
     if (bad_length(q)) {
-        return 2;
+        return WH_LENGTH;
     }
-    return bad_table(q) ? 3 : 0;
+    return bad_table(q) ? WH_TABLE : WH_DONE;
 }
 
 uint64_t marked_shape_number(const question *q)
 {
     uint64_t number = shape_number(q);
-    if (number != 0) {
+    if (number != WH_DONE) {
         return number;
     }
     if (bad_mark(q)) {
-        return 6;
+        return WH_PACKET;
     }
-    return marks_set(q) != q->k ? 7 : 0;
+    return marks_set(q) != q->k ? WH_MARKS : WH_DONE;
 }
 
 uint64_t entry(const question *q, uint64_t a, uint64_t b)
@@ -130,10 +130,10 @@ uint64_t survivors_bytes(const question *q)
 answer model_family_table(const question *q, uint8_t *output)
 {
     if (bad_size(q)) {
-        return refused(1);
+        return refused(WH_SIZE);
     }
     if (q->output.length != q->m * q->k) {
-        return refused(5);
+        return refused(WH_OUTPUT);
     }
     for (uint64_t a = 1; a <= q->m; a++) {
         for (uint64_t b = 1; b <= q->k; b++) {
@@ -166,10 +166,10 @@ answer model_judge(const question *q, uint8_t *output)
 {
     (void)output;
     if (bad_size(q)) {
-        return refused(1);
+        return refused(WH_SIZE);
     }
     if (bad_table(q)) {
-        return refused(3);
+        return refused(WH_TABLE);
     }
     for (uint64_t a1 = 1; a1 <= q->m; a1++) {
         for (uint64_t a2 = a1 + 1; a2 <= q->m; a2++) {
@@ -185,15 +185,15 @@ answer model_packet_length(const question *q, uint8_t *output)
 {
     uint64_t number = shape_number(q);
     (void)output;
-    if (number != 0) {
+    if (number != WH_DONE) {
         return refused(number);
     }
-    return bad_packet(q) ? refused(6) : done_with(packet_bytes(q, q->packet));
+    return bad_packet(q) ? refused(WH_PACKET) : done_with(packet_bytes(q, q->packet));
 }
 
 answer model_survivors_length(const question *q, uint8_t *output)
 {
     uint64_t number = marked_shape_number(q);
     (void)output;
-    return number != 0 ? refused(number) : done_with(survivors_bytes(q));
+    return number != WH_DONE ? refused(number) : done_with(survivors_bytes(q));
 }

@@ -26,8 +26,8 @@ typedef struct {
     uint64_t parity, source;
 } pair;
 
-/* Lists the bare pairs, lowest parity first, then lowest source, until there are `most` of them, and
- * gives how many. */
+/* Lists the bare pairs, lowest parity first, then lowest source, until there are `most` of them,
+ * and gives how many. */
 static uint64_t bare_pairs(const question *q, const uint64_t *progress, pair *pairs, uint64_t most)
 {
     uint64_t found = 0;
@@ -57,7 +57,7 @@ bool whole(const question *q, const walked *walk)
 static walked walk_among(const question *q, uint64_t most)
 {
     walked walk = {0, {0}};
-    pair pairs[SOURCES_MOST * PARITIES_MOST];
+    pair pairs[WH_MAX_K * WH_MAX_M];
     uint64_t found = bare_pairs(q, walk.progress, pairs, most);
     while (found > 0) {
         uint64_t chosen = found > 1 ? random_below(found) : 0;
@@ -75,14 +75,14 @@ walked walk_lowest_first(const question *q)
 
 walked walk_in_random_order(const question *q)
 {
-    return walk_among(q, SOURCES_MOST * PARITIES_MOST);
+    return walk_among(q, WH_MAX_K * WH_MAX_M);
 }
 
 answer model_walk(const question *q, uint8_t *output)
 {
     uint64_t number = marked_shape_number(q);
     (void)output;
-    if (number != 0) {
+    if (number != WH_DONE) {
         return refused(number);
     }
     walked walk = walk_lowest_first(q);
@@ -95,7 +95,7 @@ answer model_walk(const question *q, uint8_t *output)
 
 static bool bad_progress(const question *q)
 {
-    for (uint64_t b = 1; b <= 8; b++) {
+    for (uint64_t b = 1; b <= WH_MAX_K; b++) {
         bool has_none = b > q->k || at_hand(q, b);
         if (q->progress[b - 1] > (has_none ? 0 : source_bits(q))) {
             return true;
@@ -107,13 +107,13 @@ static bool bad_progress(const question *q)
 answer model_next_step(const question *q, uint8_t *output)
 {
     uint64_t number = marked_shape_number(q);
-    pair pairs[SOURCES_MOST * PARITIES_MOST];
+    pair pairs[WH_MAX_K * WH_MAX_M];
     (void)output;
-    if (number != 0) {
+    if (number != WH_DONE) {
         return refused(number);
     }
     if (bad_progress(q)) {
-        return refused(17);
+        return refused(WH_PROGRESS);
     }
     answer given = done();
     memcpy(&given.results[2], q->progress, sizeof q->progress);

@@ -15,10 +15,10 @@ answer refused(uint64_t number)
 
 answer done(void)
 {
-    return numbered(0, 0);
+    return numbered(WH_DONE, 0);
 }
 
 answer done_with(uint64_t result)
 {
-    return numbered(0, result);
+    return numbered(WH_DONE, result);
 }

@@ -3,10 +3,13 @@
 #ifndef QUESTION_H
 #define QUESTION_H
 
+#include "windhawker_limits.h"
+
 #include <stddef.h>
 #include <stdint.h>
 
-enum { BYTES_MOST = 640, RESULTS_MOST = 10 };
+/* More bytes than any call takes; and the results of the walk, which gives most. */
+enum { BYTES_MOST = WH_MAX_K * WH_LONGEST + 128, RESULTS_MOST = 2 + WH_MAX_K };
 
 typedef struct {
     size_t length;
@@ -18,7 +21,7 @@ typedef struct {
     uint64_t marks;
     uint64_t packet;
     uint64_t source;
-    uint64_t progress[8];
+    uint64_t progress[WH_MAX_K];
     bytes table;
     bytes input;   /* the sources, the packets at hand, or the block */
     bytes rebuilt; /* the rebuilt sources, for the look */

@@ -35,8 +35,8 @@ static void expect_round_trip(question *q)
 
 static void round_trip_of_every_choice(void)
 {
-    for (uint64_t size = 0; size < 64; size++) {
-        question q = house_question(size / 8 + 1, size % 8 + 1, 1);
+    for (uint64_t size = 0; size < WH_MAX_K * WH_MAX_M; size++) {
+        question q = house_question(size / WH_MAX_M + 1, size % WH_MAX_M + 1, 1);
         while (next_choice(&q)) {
             expect_round_trip(&q);
         }
@@ -45,9 +45,10 @@ static void round_trip_of_every_choice(void)
 
 static void round_trip_of_every_length(void)
 {
-    for (uint64_t l = 1; l <= 56; l++) {
+    for (uint64_t l = 1; l <= WH_MAX_LENGTH; l++) {
         for (int i = 0; i < 10; i++) {
-            question q = house_question(random_between(1, 8), random_between(1, 8), l);
+            uint64_t k = random_between(1, WH_MAX_K), m = random_between(1, WH_MAX_M);
+            question q = house_question(k, m, l);
             draw_marks(&q);
             expect_round_trip(&q);
         }
@@ -56,23 +57,25 @@ static void round_trip_of_every_length(void)
 
 static void round_trip_at_the_limits(void)
 {
-    question q = house_question(8, 8, 56);
+    question q = largest_question();
     for (int i = 0; i < 10; i++) {
-        q.marks = 0xFF00;
+        lose_every_source(&q);
         expect_round_trip(&q);
         draw_marks(&q);
         expect_round_trip(&q);
     }
 }
 
-/* Against elimination, with all eight sources missing and long. */
+/* Against elimination, with all sources missing and long. */
 static void rebuild_at_the_limits(void)
 {
-    question q = house_question(8, 8, 56);
-    q.marks = 0xFF00;
     for (size_t i = 0; i < 4; i++) {
-        q.table.at[63] = i % 2 == 0 ? 56 : 64;
-        fit_survivors(&q, 8 * 56);
+        question q = largest_question();
+        lose_every_source(&q);
+        if (i % 2 == 1) {
+            q.table.at[q.table.length - 1] = WH_MAX_SHIFT;
+        }
+        fit_survivors(&q, q.k * q.l);
         q.input.at[i == 3 ? 100 : 0] ^= i >= 2 ? 4 : 0;
         compare(&rebuild_call, &q);
     }
@@ -162,14 +165,7 @@ static void packets_of_two_logbooks(void)
 
 static void damaged_packets_of_any_shape(void)
 {
-    question q;
-    for (int i = 0; i < 2500; i++) {
-        draw_small_shape(&q, 8, 2);
-        draw_marks(&q);
-        fit_survivors(&q, q.k * q.l);
-        damage(&q.input);
-        compare(&rebuild_call, &q);
-    }
+    compare_damaged(2500);
 }
 
 static void repair_every_packet(void)
@@ -241,7 +237,7 @@ static void look_refused_is_nowhere(void)
 {
     const uint8_t table[4] = {0, 1, 0, 2}, survivors[4] = {0}, rebuilt[2] = {0};
     wh_looked looked = wh_look(2, 2, 1, table, 4, 12, 3, survivors, 4, rebuilt, 2);
-    if (looked.number != 6 || wh_look_at(looked, survivors, rebuilt) != NULL) {
+    if (looked.number != WH_PACKET || wh_look_at(looked, survivors, rebuilt) != NULL) {
         fail("a place although refused");
     }
 }

@@ -1,18 +1,20 @@
-#include "draw.h"
+#include "draw_question.h"
 
 #include "random.h"
 
-/* The numbers and the lengths of a question, one place each. */
 static uint64_t *number_at(question *q, size_t place)
 {
     uint64_t *numbers[] = {&q->k, &q->m, &q->l, &q->marks, &q->packet, &q->source};
-    return place < 6 ? numbers[place] : place < 14 ? &q->progress[place - 6] : NULL;
+    if (place < PROGRESS_PLACE) {
+        return numbers[place];
+    }
+    return place < LENGTH_PLACE ? &q->progress[place - PROGRESS_PLACE] : NULL;
 }
 
 static bytes *buffer_at(question *q, size_t place)
 {
     bytes *buffers[] = {&q->table, &q->input, &q->rebuilt, &q->output};
-    return place >= 14 && place < 18 ? buffers[place - 14] : NULL;
+    return place >= LENGTH_PLACE && place < BYTE_PLACE ? buffers[place - LENGTH_PLACE] : NULL;
 }
 
 /* Near what was there, at the limits, and what looks like the old number when bits are cut. */
@@ -25,17 +27,17 @@ static uint64_t telling_number(uint64_t old, size_t value)
         1,
         2,
         3,
-        7,
-        8,
-        9,
+        WH_MAX_K - 1,
+        WH_MAX_K,
+        WH_MAX_K + 1,
         12,
-        15,
-        16,
-        17,
-        56,
-        57,
-        448,
-        449,
+        WH_MAX_K + WH_MAX_M - 1,
+        WH_MAX_K + WH_MAX_M,
+        WH_MAX_K + WH_MAX_M + 1,
+        WH_MAX_LENGTH,
+        WH_MAX_LENGTH + 1,
+        8 * WH_MAX_LENGTH,
+        8 * WH_MAX_LENGTH + 1,
         old + 256,
         old + 65536,
         old + ((uint64_t)1 << 32),
@@ -58,7 +60,9 @@ static size_t telling_length(size_t old, size_t value)
 
 static void spoil_byte(bytes *at, size_t value)
 {
-    static const uint8_t telling[] = {0, 1, 63, 64, 65, 128, 255};
+    static const uint8_t telling[] = {
+        0, 1, WH_MAX_SHIFT - 1, WH_MAX_SHIFT, WH_MAX_SHIFT + 1, 128, 255,
+    };
     if (at->length > 0) {
         at->at[random_below(at->length)] = telling[value % sizeof telling];
     }
@@ -73,7 +77,7 @@ void spoil_place(question *q, size_t place, size_t value)
     } else if (buffer != NULL) {
         buffer->length = telling_length(buffer->length, value);
     } else {
-        spoil_byte(place == 18 ? &q->table : &q->input, value);
+        spoil_byte(place == BYTE_PLACE ? &q->table : &q->input, value);
     }
 }
 

@@ -8,9 +8,9 @@
 static void family_table_of_every_size(void)
 {
     question q = {0};
-    for (q.k = 0; q.k <= 10; q.k++) {
-        for (q.m = 0; q.m <= 10; q.m++) {
-            for (uint64_t length = 0; length <= 110; length++) {
+    for (q.k = 0; q.k <= WH_MAX_K + 2; q.k++) {
+        for (q.m = 0; q.m <= WH_MAX_M + 2; q.m++) {
+            for (uint64_t length = 0; length <= (WH_MAX_K + 2) * (WH_MAX_M + 3); length++) {
                 set_bytes(&q.output, length);
                 compare(&family_table_call, &q);
             }
@@ -44,7 +44,7 @@ static void judge_every_table(uint64_t k, uint64_t m, uint8_t bound)
 
 static void judge_every_small_table(void)
 {
-    judge_every_table(1, 1, 67);
+    judge_every_table(1, 1, WH_MAX_SHIFT + 3);
     judge_every_table(1, 3, 8);
     judge_every_table(3, 1, 8);
     judge_every_table(2, 2, 10);
@@ -57,8 +57,8 @@ static void judge_every_small_table(void)
 static void judge_house_tables_bent(void)
 {
     question q = {0};
-    for (q.k = 1; q.k <= 8; q.k++) {
-        for (q.m = 1; q.m <= 8; q.m++) {
+    for (q.k = 1; q.k <= WH_MAX_K; q.k++) {
+        for (q.m = 1; q.m <= WH_MAX_M; q.m++) {
             set_house_table(&q);
             for (size_t i = 0; i < q.table.length; i++) {
                 compare(&judge_call, &q);
@@ -79,7 +79,7 @@ static void judge_falling_rows(void)
     for (int i = 0; i < 20000; i++) {
         random_bytes(q.table.at, 4);
         for (int j = 0; j < 4; j++) {
-            q.table.at[j] = (uint8_t)(q.table.at[j] % 65);
+            q.table.at[j] = (uint8_t)(q.table.at[j] % (WH_MAX_SHIFT + 1));
         }
         compare(&judge_call, &q);
     }
@@ -99,8 +99,8 @@ static void judge_spoiled(void)
 static void packet_length_of_every_packet(void)
 {
     question q = house_question(2, 2, 1);
-    for (q.l = 0; q.l <= 58; q.l++) {
-        for (uint8_t r = 0; r <= 66; r++) {
+    for (q.l = 0; q.l <= WH_MAX_LENGTH + 2; q.l++) {
+        for (uint8_t r = 0; r <= WH_MAX_SHIFT + 2; r++) {
             for (q.packet = 0; q.packet <= 6; q.packet++) {
                 memset(q.table.at, 0, 4);
                 q.table.at[random_below(4)] = r;
@@ -123,10 +123,10 @@ static void packet_length_spoiled(void)
 static void survivors_length_of_all_marks(void)
 {
     question q = {0};
-    for (q.k = 1; q.k <= 8; q.k++) {
-        for (q.m = 1; q.m <= 8; q.m++) {
+    for (q.k = 1; q.k <= WH_MAX_K; q.k++) {
+        for (q.m = 1; q.m <= WH_MAX_M; q.m++) {
             for (q.marks = 0; q.marks < (uint64_t)2 << (q.k + q.m); q.marks += 1 + q.marks / 200) {
-                q.l = random_between(1, 56);
+                q.l = random_between(1, WH_MAX_LENGTH);
                 draw_table(&q);
                 compare(&survivors_length_call, &q);
             }
@@ -148,7 +148,7 @@ static void slots_are_set_when_refused(void)
 {
     const uint8_t table[4] = {0, 1, 0, 2};
     uint64_t slots[3] = {77, 77, 77};
-    whx_judge(9, 2, table, 4, &slots[0]);
+    whx_judge(WH_MAX_K + 1, 2, table, 4, &slots[0]);
     whx_packet_length(2, 2, 1, table, 4, 5, &slots[1]);
     whx_survivors_length(2, 2, 1, table, 4, 7, &slots[2]);
     expect_zeros(slots, 3);

@@ -11,8 +11,8 @@ static void walk_every_choice_of_every_house_table(void)
 {
     question q = {0};
     q.l = 1;
-    for (q.k = 1; q.k <= 8; q.k++) {
-        for (q.m = 1; q.m <= 8; q.m++) {
+    for (q.k = 1; q.k <= WH_MAX_K; q.k++) {
+        for (q.m = 1; q.m <= WH_MAX_M; q.m++) {
             set_house_table(&q);
             for (q.marks = 0; next_choice(&q);) {
                 if (compare(&walk_call, &q).results[1] != 1) {
@@ -44,7 +44,7 @@ static void walk_every_small_table(void)
 static void walk_tables_full_of_ties(void)
 {
     question q = house_question(3, 3, 1);
-    q.marks = 56;
+    lose_every_source(&q);
     for (int i = 0; i < 8000; i++) {
         for (int j = 0; j < 9; j++) {
             q.table.at[j] = (uint8_t)random_below(i % 2 == 0 ? 3 : 12);
@@ -69,11 +69,11 @@ static void walk_all_marks_of_small_shapes(void)
 
 static void walk_at_the_limits(void)
 {
-    question q = house_question(8, 8, 56);
+    question q = largest_question();
     for (int i = 0; i < 12; i++) {
         set_house_table(&q);
-        q.table.at[random_below(64)] = i < 2 ? q.table.at[0] : 64;
-        q.marks = 0xFF00;
+        q.table.at[random_below(q.table.length)] = i < 2 ? q.table.at[0] : WH_MAX_SHIFT;
+        lose_every_source(&q);
         compare(&walk_call, &q);
         draw_marks(&q);
         compare(&walk_call, &q);
@@ -100,7 +100,7 @@ static void every_order_ends_where_walk_ends(void)
         wh_walked ended = wh_walk(q.k, q.m, q.l, q.table.at, q.table.length, q.marks);
         for (int order = 0; order < 5; order++) {
             walked walk = walk_in_random_order(&q);
-            if (ended.number != 0 || walk.count != ended.count ||
+            if (ended.number != WH_DONE || walk.count != ended.count ||
                 memcmp(walk.progress, ended.progress, sizeof walk.progress) != 0) {
                 fail("an order of %" PRIu64 " steps ends elsewhere, walk has %" PRIu64, walk.count,
                      ended.count);
@@ -134,8 +134,9 @@ static void next_steps_make_the_walk(void)
 /* Every progress of two sources, also that which no walk reaches, and one too far. */
 static void next_step_from_every_progress(void)
 {
-    static const uint8_t tables[][4] = {{0, 1, 0, 2}, {0, 7, 0, 7},   {0, 8, 0, 8},
-                                        {3, 3, 3, 3}, {64, 0, 0, 64}, {5, 0, 2, 4}};
+    static const uint8_t tables[][4] = {{0, 1, 0, 2}, {0, 7, 0, 7},
+                                        {0, 8, 0, 8}, {3, 3, 3, 3},
+                                        {5, 0, 2, 4}, {WH_MAX_SHIFT, 0, 0, WH_MAX_SHIFT}};
     question q = house_question(2, 2, 1);
     for (size_t i = 0; i < sizeof tables / sizeof tables[0]; i++) {
         memcpy(q.table.at, tables[i], 4);
@@ -155,7 +156,7 @@ static void next_step_with_progress_of_no_source(void)
     question q;
     for (int i = 0; i < 3000; i++) {
         draw_for_next_step(&q);
-        q.progress[random_below(8)] += 1;
+        q.progress[random_below(WH_MAX_K)] += 1;
         compare(&next_step_call, &q);
     }
 }
@@ -175,10 +176,10 @@ static void whole_at_1_stalled_at_2(void)
     const uint8_t table[4] = {0, 8, 0, 8};
     wh_walked short_walk = wh_walk(2, 2, 1, table, 4, 12);
     wh_walked long_walk = wh_walk(2, 2, 2, table, 4, 12);
-    if (short_walk.number != 0 || short_walk.whole != 1 || short_walk.count != 16) {
+    if (short_walk.number != WH_DONE || short_walk.whole != 1 || short_walk.count != 16) {
         fail("not whole at l = 1");
     }
-    if (long_walk.number != 0 || long_walk.whole != 0 || long_walk.count != 8) {
+    if (long_walk.number != WH_DONE || long_walk.whole != 0 || long_walk.count != 8) {
         fail("not stalled after 8 at l = 2");
     }
 }
@@ -186,14 +187,14 @@ static void whole_at_1_stalled_at_2(void)
 static void slots_are_set_when_refused(void)
 {
     const uint8_t table[4] = {0, 1, 0, 2};
-    const uint64_t progress[8] = {9};
-    uint64_t slots[10];
+    const uint64_t progress[WH_MAX_K] = {9};
+    uint64_t slots[RESULTS_MOST];
     memset(slots, 0x77, sizeof slots);
     whx_walk(2, 2, 1, table, 4, 7, &slots[0], &slots[1], &slots[2]);
-    expect_zeros(slots, 10);
+    expect_zeros(slots, RESULTS_MOST);
     memset(slots, 0x77, sizeof slots);
     whx_next_step(2, 2, 1, table, 4, 12, progress, &slots[0], &slots[1], &slots[2]);
-    expect_zeros(slots, 10);
+    expect_zeros(slots, RESULTS_MOST);
 }
 
 int main(void)

@@ -2,7 +2,6 @@
  * by the same amount with each instruction; a loop of known length says how many a tick has. */
 #include "semihosting.h"
 #include "windhawker.h"
-#include "windhawker_limits.h"
 
 enum { LOOPS = 500000, REPEATS = 8 };
 
@@ -111,12 +110,12 @@ static void count_rebuild(const shape *s, size_t cells, size_t parity)
                              (size_t)(s->k * s->l));
     }
     uint64_t count = instructions_since(began) / REPEATS;
-    say_count(rebuilt.number == 0 ? "rebuild" : "refused", s, count);
+    say_count(rebuilt.number == WH_DONE ? "rebuild" : "refused", s, count);
 }
 
 int main(void)
 {
-    static const shape shapes[] = {{2, 2, 8}, {4, 2, 32}, {8, 8, 56}};
+    static const shape shapes[] = {{2, 2, 8}, {4, 2, 32}, {WH_MAX_K, WH_MAX_M, WH_MAX_LENGTH}};
     start_ticks();
     uint32_t began = ticks();
     loop(LOOPS);

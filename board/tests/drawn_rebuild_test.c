@@ -25,22 +25,16 @@ static void look(void)
 
 static void damaged_packets(void)
 {
-    question q;
-    for (int i = 0; i < 300; i++) {
-        draw_small_shape(&q, 8, 2);
-        draw_marks(&q);
-        fit_survivors(&q, q.k * q.l);
-        damage(&q.input);
-        compare(&rebuild_call, &q);
-    }
+    compare_damaged(300);
 }
 
-/* Eight sources and eight parities, 56 bytes each, all sources missing; then a bit turned over. */
+/* As many sources and parities as there can be, as long as they can be, all sources missing; then a
+ * bit turned over. */
 static void at_the_limits(void)
 {
-    question q = house_question(8, 8, 56);
-    q.marks = 0xFF00;
-    fit_survivors(&q, 8 * 56);
+    question q = largest_question();
+    lose_every_source(&q);
+    fit_survivors(&q, q.k * q.l);
     compare(&rebuild_call, &q);
     q.input.at[100] ^= 4;
     compare(&rebuild_call, &q);

@@ -56,15 +56,18 @@ static void block(void)
     compare_drawn(&block_call);
 }
 
-/* Eight sources and eight parities, 56 bytes each, all sources missing. */
+/* As many sources and parities as there can be, as long as they can be, all sources missing. */
 static void at_the_limits(void)
 {
-    question q = house_question(8, 8, 56);
-    q.marks = 0xFF00;
+    question q = largest_question();
+    lose_every_source(&q);
     compare(&walk_call, &q);
     for (int i = 0; i < 4; i++) {
-        q.table.at[63] = i % 2 == 0 ? 56 : 64;
-        fit_sources(&q, q.m * packet_bytes(&q, 9));
+        set_house_table(&q);
+        if (i % 2 == 1) {
+            q.table.at[q.table.length - 1] = WH_MAX_SHIFT;
+        }
+        fit_sources(&q, q.m * packet_bytes(&q, q.k + 1));
         compare(&encode_all_call, &q);
     }
 }

@@ -4,10 +4,13 @@
 #ifndef MESSAGE_H
 #define MESSAGE_H
 
+#include "windhawker_limits.h"
+
 #include <stdint.h>
 
 enum { TABLE, INPUT, REBUILT, OUTPUT, BUFFERS };
-enum { MARGIN = 16, MARGIN_BYTE = 0xA5, BUFFER_MOST = 640, RESULTS = 10 };
+enum { MARGIN = 16, MARGIN_BYTE = 0xA5, BUFFER_MOST = WH_MAX_K * WH_LONGEST + 128 };
+enum { RESULTS = 2 + WH_MAX_K };
 enum { BYTES_ASKED = BUFFERS * BUFFER_MOST, BYTES_ANSWERED = BYTES_ASKED + 2 * MARGIN };
 
 typedef enum {
@@ -28,7 +31,7 @@ typedef enum {
 
 typedef struct {
     uint64_t call, k, m, l, marks, packet, source;
-    uint64_t progress[8];
+    uint64_t progress[WH_MAX_K];
     uint64_t lengths[BUFFERS];
 } asked_message;
 

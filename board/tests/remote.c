@@ -4,6 +4,14 @@
 
 #include <string.h>
 
+/* For a call that has one result, which goes into its slot; the number comes back. */
+static uint64_t run_for_one(const errand *e, uint64_t *result)
+{
+    answered_message answered = run(e);
+    *result = answered.results[0];
+    return answered.number;
+}
+
 uint64_t whx_family_table(uint64_t k, uint64_t m, uint8_t *out, uint64_t out_len)
 {
     errand e = new_errand(FAMILY_TABLE, k, m, 0);
@@ -16,9 +24,7 @@ uint64_t whx_judge(uint64_t k, uint64_t m, const uint8_t *table, uint64_t table_
 {
     errand e = new_errand(JUDGE, k, m, 0);
     lend_input(&e, TABLE, table, table_len);
-    answered_message answered = run(&e);
-    *growing = answered.results[0];
-    return answered.number;
+    return run_for_one(&e, growing);
 }
 
 /* An errand that has a shape, as all from here on but the block. */
@@ -35,9 +41,7 @@ uint64_t whx_packet_length(uint64_t k, uint64_t m, uint64_t l, const uint8_t *ta
 {
     errand e = shaped_errand(PACKET_LENGTH, k, m, l, table, table_len);
     e.words.packet = packet;
-    answered_message answered = run(&e);
-    *length = answered.results[0];
-    return answered.number;
+    return run_for_one(&e, length);
 }
 
 uint64_t whx_survivors_length(uint64_t k, uint64_t m, uint64_t l, const uint8_t *table,
@@ -45,9 +49,7 @@ uint64_t whx_survivors_length(uint64_t k, uint64_t m, uint64_t l, const uint8_t 
 {
     errand e = shaped_errand(SURVIVORS_LENGTH, k, m, l, table, table_len);
     e.words.marks = marks;
-    answered_message answered = run(&e);
-    *length = answered.results[0];
-    return answered.number;
+    return run_for_one(&e, length);
 }
 
 uint64_t whx_encode_all(uint64_t k, uint64_t m, uint64_t l, const uint8_t *table,
@@ -72,20 +74,20 @@ uint64_t whx_encode_one(uint64_t k, uint64_t m, uint64_t l, const uint8_t *table
 }
 
 uint64_t whx_walk(uint64_t k, uint64_t m, uint64_t l, const uint8_t *table, uint64_t table_len,
-                  uint64_t marks, uint64_t *count, uint64_t *whole, uint64_t progress[8])
+                  uint64_t marks, uint64_t *count, uint64_t *whole, uint64_t progress[WH_MAX_K])
 {
     errand e = shaped_errand(WALK, k, m, l, table, table_len);
     e.words.marks = marks;
     answered_message answered = run(&e);
     *count = answered.results[0];
     *whole = answered.results[1];
-    memcpy(progress, &answered.results[2], 8 * sizeof progress[0]);
+    memcpy(progress, &answered.results[2], WH_MAX_K * sizeof progress[0]);
     return answered.number;
 }
 
 uint64_t whx_next_step(uint64_t k, uint64_t m, uint64_t l, const uint8_t *table, uint64_t table_len,
-                       uint64_t marks, const uint64_t progress[8], uint64_t *parity,
-                       uint64_t *source, uint64_t after[8])
+                       uint64_t marks, const uint64_t progress[WH_MAX_K], uint64_t *parity,
+                       uint64_t *source, uint64_t after[WH_MAX_K])
 {
     errand e = shaped_errand(NEXT_STEP, k, m, l, table, table_len);
     e.words.marks = marks;
@@ -93,7 +95,7 @@ uint64_t whx_next_step(uint64_t k, uint64_t m, uint64_t l, const uint8_t *table,
     answered_message answered = run(&e);
     *parity = answered.results[0];
     *source = answered.results[1];
-    memcpy(after, &answered.results[2], 8 * sizeof after[0]);
+    memcpy(after, &answered.results[2], WH_MAX_K * sizeof after[0]);
     return answered.number;
 }
 
@@ -105,9 +107,7 @@ uint64_t whx_rebuild(uint64_t k, uint64_t m, uint64_t l, const uint8_t *table, u
     e.words.marks = marks;
     lend_input(&e, INPUT, packets, packets_len);
     lend_output(&e, out, out_len);
-    answered_message answered = run(&e);
-    *count = answered.results[0];
-    return answered.number;
+    return run_for_one(&e, count);
 }
 
 uint64_t whx_repair(uint64_t k, uint64_t m, uint64_t l, const uint8_t *table, uint64_t table_len,
@@ -145,7 +145,5 @@ uint64_t whx_block(const uint8_t *block, uint64_t block_len, uint8_t *dest, uint
     errand e = new_errand(BLOCK, 0, 0, 0);
     lend_input(&e, INPUT, block, block_len);
     lend_output(&e, dest, dest_len);
-    answered_message answered = run(&e);
-    *length = answered.results[0];
-    return answered.number;
+    return run_for_one(&e, length);
 }

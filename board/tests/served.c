@@ -55,14 +55,14 @@ static uint64_t judge(void)
 static uint64_t walk(void)
 {
     wh_walked walked = wh_walk(SHAPE, asked.marks);
-    set_results(walked.count, walked.whole, walked.progress, 8);
+    set_results(walked.count, walked.whole, walked.progress, WH_MAX_K);
     return walked.number;
 }
 
 static uint64_t next_step(void)
 {
     wh_stepped stepped = wh_next_step(SHAPE, asked.marks, asked.progress);
-    set_results(stepped.parity, stepped.source, stepped.progress, 8);
+    set_results(stepped.parity, stepped.source, stepped.progress, WH_MAX_K);
     return stepped.number;
 }
 

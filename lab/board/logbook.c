@@ -4,7 +4,6 @@
  * hands over each card's packet as one T=1 block; the one from card 3 came damaged at first. */
 #include "semihosting.h"
 #include "windhawker.h"
-#include "windhawker_limits.h"
 
 enum { K = 4, M = 2, L = 8 };
 
@@ -39,7 +38,7 @@ static void take(const received_block *block)
     say(wh_meaning(taken.number));
     say_bytes(packets + packets_length, (size_t)taken.length);
     say("\n");
-    if (taken.number == 0) {
+    if (taken.number == WH_DONE) {
         packets_length += (size_t)taken.length;
         marks |= (uint64_t)1 << (block->card - 1);
     }
@@ -63,5 +62,5 @@ int main(void)
     say("\n");
     say(logbook);
     say("\n");
-    return rebuilt.number == 0 ? 0 : 1;
+    return rebuilt.number == WH_DONE ? 0 : 1;
 }

@@ -35,22 +35,18 @@ static bool read_line(const char *at, const char *end, question *q)
 static uint64_t sheet_number(const char *input, size_t length, question *q)
 {
     if (!read_line(input, input + length, q)) {
-        return 18;
+        return WH_LINE;
     }
-    if (q->k < 1 || q->k > SOURCES_MOST || q->m < 1 || q->m > PARITIES_MOST) {
-        return 1;
+    if (bad_size(q)) {
+        return WH_SIZE;
     }
-    return q->l < 1 || q->l > LENGTH_MOST ? 2 : 0;
+    return bad_length(q) ? WH_LENGTH : WH_DONE;
 }
 
 static void fill_house_table(question *q)
 {
-    q->table.length = (size_t)(q->k * q->m);
-    for (uint64_t a = 1; a <= q->m; a++) {
-        for (uint64_t b = 1; b <= q->k; b++) {
-            q->table.at[(a - 1) * q->k + b - 1] = (uint8_t)(a * (b - 1));
-        }
-    }
+    q->table.length = q->output.length = (size_t)(q->k * q->m);
+    model_family_table(q, q->table.at);
 }
 
 static void print_row(question *q, const uint64_t *ids)
@@ -81,9 +77,9 @@ int main(void)
     char input[INPUT_MOST];
     size_t length = fread(input, 1, sizeof input, stdin);
     static question q;
-    uint64_t ids[SOURCES_MOST];
+    uint64_t ids[WH_MAX_K];
     uint64_t number = sheet_number(input, length, &q);
-    if (number != 0) {
+    if (number != WH_DONE) {
         printf("refused %d\n", (int)number);
         return 0;
     }

@@ -239,9 +239,11 @@ pub bitAt-flip : (xs : List ℕ) (p v : ℕ) → p < 8 * length xs → v < 2 →
     → bitAt (set xs (p / 8) (bitXor (getD xs (p / 8) 0) (v * 2 ^ (p % 8) % 2 ^ 8))) q ≡ (bitAt xs q + v * oneAt p q) % 2
 bitAt-flip xs p v h lv q =
     let e : p ≡ p % 8 + 8 * (p / 8) = omega arith in
+    let powers : 2 ^ (p % 8) * 2 ^ (8 * (p / 8)) ≡ 2 ^ p = sym (pow-add 2 (p % 8) (8 * (p / 8))) ∙ ap (λ (x : ℕ). 2 ^ x) (sym e) in
+    let there : v * 2 ^ (p % 8) * 2 ^ (8 * (p / 8)) ≡ v * 2 ^ p = mul-assoc v (2 ^ (p % 8)) (2 ^ (8 * (p / 8))) ∙ ap (λ (x : ℕ). v * x) powers in
     rw (shl-exact 1 (p % 8) 8 lv (omega arith))
     (bitAt-xor xs (p / 8) (v * 2 ^ (p % 8)) q (omega arith) (lt-of-lt-of-le (shl-lt 1 (p % 8) lv) (pow-mono {i = 1 + p % 8} {j = 8} (omega arith)))
-    ∙ ap (λ (x : ℕ). (bitAt xs q + x) % 2) (ap (λ (x : ℕ). bit x q) (mul-assoc v (2 ^ (p % 8)) (2 ^ (8 * (p / 8))) ∙ ap (λ (x : ℕ). v * x) (sym (pow-add 2 (p % 8) (8 * (p / 8))) ∙ ap (λ (x : ℕ). 2 ^ x) (sym e))) ∙ bit-digit v p q lv))
+    ∙ ap (λ (x : ℕ). (bitAt xs q + x) % 2) (ap (λ (x : ℕ). bit x q) there ∙ bit-digit v p q lv))
 
 -- ---- a list that is clear from a bit on, filled with 0, copied to, or summed
 

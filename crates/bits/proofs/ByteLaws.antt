@@ -86,8 +86,10 @@ module _ (on : ℕ → Bool) (f : ℕ → List ℕ) (len : ℕ → ℕ) (sized :
     | yes q ↦ rw (← q, e) (rw (drop-at (joined on f i) (f i) (place on len i) (joined-length i)) (take-all (len i) (f i) (omega (arith, sized i))))
     | no ne ↦
         let g : place on len (suc i) ≤ place on len n = sum-grows (λ j. cond (on j) (len j) 0) (suc i) n (omega arith) in
-        rw (drop-append-le (place on len i) (joined on f n) (pick (on n) (f n) []) (omega (arith, joined-length n, place-on on len i e)))
-        (rw (take-append-le (len i) (drop (place on len i) (joined on f n)) (pick (on n) (f n) []) (simp length-drop (omega (arith, joined-length n, place-on on len i e)))) (part-joined n i (omega arith) e))
+        let last = pick (on n) (f n) [] in
+        let ends : place on len i + len i ≤ length (joined on f n) = omega (arith, joined-length n, place-on on len i e) in
+        rw (drop-append-le (place on len i) (joined on f n) last (omega arith))
+        (rw (take-append-le (len i) (drop (place on len i) (joined on f n)) last (simp length-drop (omega arith))) (part-joined n i (omega arith) e))
   ]
 
   -- a list with the right parts

@@ -2,9 +2,9 @@
 use mathlib.Core.Path.{_≡_, refl, sym, ap, ap₂, _∙_}
 use mathlib.Core.Logic.{_≢_}
 use mathlib.Core.Bool.{Bool, true, false, cond, not, and-eq-true-iff, and-true, true≢false}
-use Prim.Native.Nat.{ℕ, zero, suc, _+_, _-_, _*_, _≤_, _<_}
+use Prim.Native.Nat.{ℕ, zero, suc, _+_, _-_, _*_, _%_, _≤_, _<_}
 use native.Mathlib.Omega.{arith}
-use native.Mathlib.Nat.{add-zero, add-suc}
+use native.Mathlib.Nat.{add-zero, add-suc, mod-add-mod}
 use native.Mathlib.Numerals.{add-one}
 use native.Mathlib.Decide.{ℕ-discrete}
 use borrow.Author.Tests.{eq-eqb, ne-eqb}
@@ -17,6 +17,27 @@ oneAt-same b c e = rw (eq-eqb b c e)
 pub oneAt-other : (b c : ℕ) → b ≢ c → oneAt b c ≡ 0
 unfolding oneAt
 oneAt-other b c ne = rw (ne-eqb b c ne)
+
+-- what is added at one place only is the same by either place's value
+pub oneAt-times : (i j x y : ℕ) → (i ≡ j → x ≡ y) → oneAt i j * x ≡ oneAt i j * y
+oneAt-times i j x y h = elim (ℕ-discrete i j) [
+  | yes e ↦ ap (λ v. oneAt i j * v) (h e)
+  | no ne ↦ rw (oneAt-other i j ne) (omega arith)
+]
+
+-- the same place, counted from k on
+pub oneAt-from : (k i a a′ : ℕ) → i ≡ k + a → oneAt a a′ ≡ oneAt i (k + a′)
+oneAt-from k i a a′ e = elim (ℕ-discrete a a′) [
+  | yes f ↦ oneAt-same a a′ f ∙ sym (oneAt-same i (k + a′) (omega arith))
+  | no nf ↦ oneAt-other a a′ nf ∙ sym (oneAt-other i (k + a′) (λ f. nf (omega arith)))
+]
+
+-- one term more in a sum modulo 2
+pub mod-more : (x y d e : ℕ) → x ≡ (y + d) % 2 → (x + e) % 2 ≡ (y + (d + e)) % 2
+mod-more x y d e h = rw (h, mod-add-mod) (ap (λ v. v % 2) (omega arith))
+
+pub mod-both : (r f g d : ℕ) → f ≡ g + d → (r + f) % 2 ≡ ((r + g) % 2 + d) % 2
+mod-both r f g d e = rw (e, mod-add-mod) (ap (λ x. x % 2) (omega arith))
 
 pub sum-same : (k : ℕ) (f f′ : ℕ → ℕ) → ((c : ℕ) → c < k → f c ≡ f′ c) → sum k f ≡ sum k f′
 unfolding sum
@@ -32,6 +53,12 @@ pub sum-le : (k : ℕ) (f f′ : ℕ → ℕ) → ((c : ℕ) → c < k → f c �
 unfolding sum
 sum-le zero f f′ h = omega arith
 sum-le (suc k) f f′ h = omega (arith, sum-le k f f′ (λ c lt. h c (omega arith)), h k (omega arith))
+
+-- a family that is the sum of two
+pub sum-both : (k : ℕ) (f g h : ℕ → ℕ) → ((c : ℕ) → c < k → f c ≡ g c + h c) → sum k f ≡ sum k g + sum k h
+unfolding sum
+sum-both zero f g h e = refl
+sum-both (suc k) f g h e = omega (arith, sum-both k f g h (λ c l. e c (omega arith)), e k (omega arith))
 
 -- two families that differ at b only
 pub sum-but : (k b : ℕ) (f f′ : ℕ → ℕ) → b < k → ((c : ℕ) → c < k → b ≢ c → f c ≡ f′ c) → sum k f + f′ b ≡ sum k f′ + f b

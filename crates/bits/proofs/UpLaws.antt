@@ -32,6 +32,20 @@ up-same e f f′ q h = elim (decLt q e) [
 pub up-high : (e : ℕ) (f : ℕ → ℕ) (n q : ℕ) → ((p : ℕ) → n ≤ p → f p ≡ 0) → e + n ≤ q → up e f q ≡ 0
 up-high e f n q z l = up-from e f q (omega arith) ∙ z (q - e) (omega arith)
 
+-- noughts, shifted up
+pub up-noughts : (e : ℕ) (f : ℕ → ℕ) (q : ℕ) → ((p : ℕ) → f p ≡ 0) → up e f q ≡ 0
+up-noughts e f q z = elim (decLt q e) [
+  | yes l ↦ up-low e f q l
+  | no l ↦ up-from e f q (omega arith) ∙ z _
+]
+
+-- a sum, shifted up
+pub up-add : (e : ℕ) (f g : ℕ → ℕ) (p : ℕ) → up e (λ q. f q + g q) p ≡ up e f p + up e g p
+up-add e f g p = elim (decLt p e) [
+  | yes l ↦ omega (arith, up-low e (λ q. f q + g q) p l, up-low e f p l, up-low e g p l)
+  | no l ↦ let h : e ≤ p = omega arith in omega (arith, up-from e (λ q. f q + g q) p h, up-from e f p h, up-from e g p h)
+]
+
 pub up-up : (a b : ℕ) (f : ℕ → ℕ) (p : ℕ) → up a (up b f) p ≡ up (a + b) f p
 up-up a b f p = elim (decLt p a) [
   | yes l ↦ up-low a (up b f) p l ∙ sym (up-low (a + b) f p (omega arith))

@@ -28,6 +28,10 @@ up e f p = cond (ltb p e) 0 (f (p - e))
 abbrev pub ClearFrom : List ℕ → ℕ → Type 0
 ClearFrom xs n = (p : ℕ) → n ≤ p → bitAt xs p ≡ 0
 
+-- no bit is set
+abbrev pub Noughts : List ℕ → Type 0
+Noughts xs = (p : ℕ) → bitAt xs p ≡ 0
+
 -- r tells whether P holds
 pub record Tells (r : Bool) (P : Type 0) : Type 0 where
   pub so : r ≡ true → P

@@ -1,36 +1,15 @@
 -- Laws of a block's checks: what each says that refuses nothing. Assumes nothing.
 use mathlib.Core.Path.{_≡_, refl, subst}
 use mathlib.Core.Logic.{inl, inr}
-use mathlib.Core.List.{List, [], _∷_, _++_}
+use mathlib.Core.List.{List, _++_}
 use Prim.Native.Nat.{ℕ, _+_, _≤_}
 use native.Mathlib.Omega.{arith}
 use native.Mathlib.Decide.{ℕ-discrete, decLt}
 use lib.ListN.{length, drop, length-take, length-drop}
 use Rattle.bits.specs.Bits.{slice, xorOf}
-use Rattle.table.specs.Checks.{Checks, Checked}
-use Rattle.table.proofs.CheckLaws.{Numbered, goes, passed}
-use Rattle.card.specs.Block.{nad, pcb, len, information, TakenPcb, framingChecks, lengthChecks, roomChecks, formChecks, blockChecks}
-
--- no check of the list refuses
-abbrev pub Passes : Checks → Type 0
-Passes [] = Unit
-Passes (c ∷ cs) = (c .1 → ⊥) × Passes cs
-
-pub zero-passes : (cs : Checks) → Numbered cs → Checked cs 0 → Passes cs
-zero-passes [] p x = tt
-zero-passes (c ∷ cs) p (inl x) = absurd (omega arith)
-zero-passes (c ∷ cs) p (inr x) = (x .0, zero-passes cs (p .1) (x .1))
-
-pub passes-zero : (cs : Checks) → Passes cs → Checked cs 0
-passes-zero [] x = refl
-passes-zero (c ∷ cs) x = inr (x .0, passes-zero cs (x .1))
-
--- a list that gave 0, and the list after it decides
-pub goes-on : (cs ds : Checks) (n m : ℕ) → Numbered cs → Checked cs n → n ≡ 0 → Checked ds m → Checked (cs ++ ds) m
-goes-on cs ds n m p x z y = goes cs ds m p (subst (Checked cs) z x) y
-
-pub not-unequal : {a b : ℕ} → ((a ≡ b → ⊥) → ⊥) → a ≡ b
-not-unequal {a} {b} h = elim (ℕ-discrete a b) [ yes e ↦ e | no n ↦ absurd (h n) ]
+use Rattle.table.specs.Checks.{Checked}
+use Rattle.table.proofs.CheckLaws.{numbered-by, passed, zero-passes, not-unequal}
+use Rattle.card.specs.Block.{nad, pcb, len, information, TakenPcb, framingChecks, roomChecks, formChecks, blockChecks}
 
 pub taken-or-not : (p : ℕ) → ((TakenPcb p → ⊥) → ⊥) → TakenPcb p
 taken-or-not p h =
@@ -43,18 +22,9 @@ taken-or-not p h =
     other p f g (inl x) = f x
     other p f g (inr x) = g x
 
-pub framing-numbered : (block : List ℕ) → Numbered (framingChecks block)
-framing-numbered block = omega arith
-
-pub length-numbered : (block : List ℕ) → Numbered (lengthChecks block)
-length-numbered block = omega arith
-
-pub form-numbered : (block : List ℕ) → Numbered (formChecks block)
-form-numbered block = omega arith
-
 pub long : (block : List ℕ) {n : ℕ} → Checked (framingChecks block) n → n ≡ 0 → 4 ≤ length block
 long block x z =
-    let p = zero-passes (framingChecks block) (framing-numbered block) (subst (Checked (framingChecks block)) z x) in
+    let p = zero-passes (framingChecks block) (numbered-by (framingChecks block) refl) (subst (Checked (framingChecks block)) z x) in
     elim (decLt (length block) 4) [ yes l ↦ absurd (p .0 l) | no n ↦ omega arith ]
 
 -- a block whose form refuses nothing
@@ -67,7 +37,7 @@ pub record Formed (block : List ℕ) : Type 0 where
 
 pub formed : (block : List ℕ) {n : ℕ} → Checked (formChecks block) n → n ≡ 0 → Formed block
 formed block x z =
-    let p = zero-passes (formChecks block) (form-numbered block) (subst (Checked (formChecks block)) z x) in
+    let p = zero-passes (formChecks block) (numbered-by (formChecks block) refl) (subst (Checked (formChecks block)) z x) in
     record {
       free = p .1 .0;
       exact = not-unequal (p .1 .1 .0);
@@ -79,8 +49,8 @@ formed block x z =
 -- and whose information fits
 pub fitting : (block : List ℕ) (room : ℕ) {n : ℕ} → Checked (blockChecks block room) n → n ≡ 0 → Formed block × (len block ≤ room)
 fitting block room x z =
-    let p = passed (formChecks block) (roomChecks (len block) room) (form-numbered block) (subst (Checked (blockChecks block room)) z x) in
-    let fits = zero-passes (roomChecks (len block) room) (omega arith) (p .1) .0 in
+    let p = passed (formChecks block) (roomChecks (len block) room) (numbered-by (formChecks block) refl) (subst (Checked (blockChecks block room)) z x) in
+    let fits = zero-passes (roomChecks (len block) room) (numbered-by (roomChecks (len block) room) refl) (p .1) .0 in
     (formed block (p .0) refl, elim (decLt room (len block)) [ yes l ↦ absurd (fits l) | no l ↦ omega arith ])
 
 -- the information bytes of a block that is LEN + 4 bytes long are LEN

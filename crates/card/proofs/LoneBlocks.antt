@@ -10,10 +10,10 @@ use lib.Seq.{take-all, take-suc, take-at}
 use Rattle.bits.specs.Bits.{Bytes, xorOf}
 use Rattle.bits.proofs.BitLaws.{xor-assoc}
 use Rattle.table.specs.Checks.{Checked}
-use Rattle.table.proofs.CheckLaws.{checked-once, goes, neither}
+use Rattle.table.proofs.CheckLaws.{numbered-by, checked-once, goes, neither, Passes, passes-zero}
 use Rattle.card.specs.Block.{nad, pcb, len, information, TakenPcb, formChecks, roomChecks, blockChecks, unchecked, LoneBlock}
 use Rattle.card.specs.Promise.{BlockTaken}
-use Rattle.card.proofs.BlockLaws.{Passes, passes-zero, form-numbered, Formed, fitting, information-length}
+use Rattle.card.proofs.BlockLaws.{Formed, fitting, information-length}
 
 xorOf-snoc : (xs : List ℕ) (y : ℕ) → xorOf (xs ++ y ∷ []) ≡ bitXor (xorOf xs) y
 unfolding xorOf
@@ -75,7 +75,7 @@ form-passes block f =
 -- the checks of a lone I-block: its form refuses nothing, so the room decides
 lone-room : {block info : List ℕ} → LoneBlock block info → (room number : ℕ) → Checked (roomChecks (len block) room) number → Checked (blockChecks block room) number
 lone-room {block} b room number x =
-    goes (formChecks block) (roomChecks (len block) room) number (form-numbered block) (passes-zero (formChecks block) (form-passes block (lone-formed b))) x
+    goes (formChecks block) (roomChecks (len block) room) number (numbered-by (formChecks block) refl) (passes-zero (formChecks block) (form-passes block (lone-formed b))) x
 
 -- a lone I-block that fits has this answer
 pub lone-answer : {block info : List ℕ} → LoneBlock block info → (before : List ℕ) → length info ≤ length before → BlockTaken block before 0 (length info) (info ++ drop (length info) before)
@@ -88,7 +88,8 @@ lone-answer {block} b before l =
     }
 
 -- and one that does not fit is refused for want of room
-pub lone-too-long : {block info : List ℕ} → LoneBlock block info → {before : List ℕ} {number n : ℕ} {after : List ℕ} → length before < length info → BlockTaken block before number n after → number ≡ 16
+pub lone-too-long : {block info : List ℕ} → LoneBlock block info → {before : List ℕ} {number n : ℕ} {after : List ℕ} → length before < length info
+    → BlockTaken block before number n after → number ≡ 16
 lone-too-long {block} b {before} {number} l t =
     let e = carried b in
     checked-once (blockChecks block (length before)) number 16 (t .numbered) (lone-room b (length before) 16 (inl (omega (arith, e .0), refl)))

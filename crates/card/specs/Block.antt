@@ -30,8 +30,8 @@ abbrev pub framingChecks : List ℕ → Checks
 framingChecks block = (11, length block < 4) ∷ (12, len block ≡ 255) ∷ []
 
 -- 13: the length is not LEN + 4
-abbrev pub lengthChecks : List ℕ → Checks
-lengthChecks block = (13, length block ≡ len block + 4 → ⊥) ∷ []
+abbrev pub blockLengthChecks : List ℕ → Checks
+blockLengthChecks block = (13, length block ≡ len block + 4 → ⊥) ∷ []
 
 -- 14: the XOR of all bytes is not 0; 15: NAD is not 00, or the PCB is none that is taken
 abbrev pub contentChecks : List ℕ → Checks
@@ -44,7 +44,7 @@ roomChecks count room = (16, room < count) ∷ []
 
 -- 11 12 13 14 15
 abbrev pub formChecks : List ℕ → Checks
-formChecks block = framingChecks block ++ lengthChecks block ++ contentChecks block
+formChecks block = framingChecks block ++ blockLengthChecks block ++ contentChecks block
 
 -- 11 12 13 14 15 16
 abbrev pub blockChecks : List ℕ → ℕ → Checks

@@ -1,38 +1,16 @@
 // The card layer: one T=1 block as a reader hands it over.
+use table::Number;
 ghost use mathlib.Core.Path.{_≡_};
 ghost use lib.ListN.{length};
 ghost use Prim.Native.Nat.{_+_, _≤_, _<_};
 ghost use Rattle.table.specs.Checks.{Checked};
-ghost use Rattle.card.specs.Block.{len, framingChecks, lengthChecks, contentChecks, roomChecks, formChecks, blockChecks};
+ghost use Rattle.card.specs.Block.{len, framingChecks, blockLengthChecks, contentChecks, roomChecks, formChecks, blockChecks};
 ghost use Rattle.card.specs.Promise.{BlockTaken};
 
 // What a block gives: its number, and with number 0 how many information bytes there are.
 pub struct Taken {
     pub number: u64,
     pub length: u64,
-}
-
-// The numbers of the list that refuse a block, one name each.
-pub struct Number {}
-
-impl Number {
-    // fewer than 4 bytes
-    pub const SHORT: u64 = 11;
-
-    // LEN is 255, which is reserved
-    pub const RESERVED: u64 = 12;
-
-    // the length is not LEN + 4
-    pub const LENGTH: u64 = 13;
-
-    // the XOR of all bytes is not 0
-    pub const SUM: u64 = 14;
-
-    // NAD is not 00, or the PCB is neither 00 nor 40
-    pub const HEADER: u64 = 15;
-
-    // LEN is above the destination's length
-    pub const ROOM: u64 = 16;
 }
 
 // The number of information bytes that LEN tells.
@@ -54,21 +32,21 @@ fn framing_number(block: &[u8]) -> u64
     ensures { λ r. ⌜ Checked (framingChecks (now (block .entry))) r ⌝ }
 {
     if block.len() < 4 {
-        return Number::SHORT;
+        return Number::BLOCK_SHORT;
     }
     if information_length(block) == 255 {
-        return Number::RESERVED;
+        return Number::BLOCK_RESERVED;
     }
     0
 }
 
 // 13.
-fn length_number(block: &[u8]) -> u64
+fn block_length_number(block: &[u8]) -> u64
     requires { ⌜ 4 ≤ length (now block) ⌝ }
-    ensures { λ r. ⌜ Checked (lengthChecks (now (block .entry))) r ⌝ }
+    ensures { λ r. ⌜ Checked (blockLengthChecks (now (block .entry))) r ⌝ }
 {
     if block.len() != information_length(block) + 4 {
-        return Number::LENGTH;
+        return Number::BLOCK_LENGTH;
     }
     0
 }
@@ -79,14 +57,14 @@ fn content_number(block: &[u8]) -> u64
     ensures { λ r. ⌜ Checked (contentChecks (now (block .entry))) r ⌝ }
 {
     if bits::xor_all(block) != 0 {
-        return Number::SUM;
+        return Number::BLOCK_SUM;
     }
     if block[0] != 0x00 {
-        return Number::HEADER;
+        return Number::BLOCK_HEADER;
     }
     match block[1] {
         0x00 | 0x40 => 0,
-        _ => Number::HEADER,
+        _ => Number::BLOCK_HEADER,
     }
 }
 
@@ -108,7 +86,7 @@ fn form_number(block: &[u8]) -> u64
     if framing != 0 {
         return framing;
     }
-    let length = length_number(block);
+    let length = block_length_number(block);
     if length != 0 {
         return length;
     }

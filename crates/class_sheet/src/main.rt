@@ -1,19 +1,18 @@
 // Prints the class sheet of the line `k m L` on standard input.
+use choices::Choice;
 use libc::STDIN_FILENO;
 use libc::STDOUT_FILENO;
-use sheet::choices;
-use sheet::choices::Choice;
+use line::Line;
 use sheet::pieces;
-use sheet::reading;
-use sheet::reading::Line;
+use table::Table;
 ghost use Prim.Native.Nat.{_≤_};
 ghost use lib.ListN.{length};
 
 // One byte more than the longest line has, so that nothing after it is missed.
 const INPUT: usize = 13;
 
-// No more choices than there are sets of sixteen marks.
-const CHOICES: usize = 65536;
+// No more choices than there are sets of marks.
+const CHOICES: usize = 1 << (Table::MAX_K + Table::MAX_M);
 
 // Writes the first n bytes of out.
 fn show(out: &[u8], n: usize)
@@ -61,7 +60,7 @@ fn print_sheet(line: Line, out: &mut [u8]) {
 fn main() {
     let mut input = [0u8; INPUT];
     let n = io::read_full(STDIN_FILENO, &mut input);
-    let line = reading::read(&input[..n]);
+    let line = line::read(&input[..n]);
     let mut out = [0u8; pieces::ROOM];
     print_sheet(line, &mut out);
 }

@@ -1,12 +1,5 @@
-pub mod CellLaws
-pub mod AtHand
-pub mod SourceLaws
-pub mod Bounds
-pub mod Survivors
-pub mod Rows
+pub mod SourceBits
 pub mod MissingSums
-pub mod Search
-pub mod Steps
+pub mod StepLaws
+pub mod LiftSteps
 pub mod EndLaws
-pub mod Skips
-pub mod LiftLaws

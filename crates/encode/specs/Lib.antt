@@ -1,4 +1,2 @@
-pub mod Code
-pub mod Rows
 pub mod Stages
 pub mod Promise

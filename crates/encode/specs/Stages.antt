@@ -1,38 +1,35 @@
 -- What is left of a call once its shape is accepted, over the desk of that shape.
 use mathlib.Core.Path.{_≡_}
 use mathlib.Core.List.{List, _++_}
-use Prim.Native.Nat.{ℕ, _+_, _-_, _*_}
-use lib.Dec.{leb}
-use Rattle.table.specs.Desk.{Desk, packetBytes, placeOf}
-use Rattle.table.specs.Checks.{Checks, Checked, numberChecks, inputChecks, outputChecks}
-use Rattle.encode.specs.Code.{packetOf, paritiesOf}
+use Prim.Native.Nat.{ℕ, _+_, _-_}
+use Rattle.table.specs.Desk.{Desk, sourcesBytes, packetBytes, paritiesBytes}
+use Rattle.table.specs.Checks.{Checks, Answered, numberChecks, inputChecks, outputChecks}
+use Rattle.code.specs.Code.{packetOf, paritiesOf}
 
--- 4 5 of encode all
-abbrev pub allChecks : Desk → List ℕ → List ℕ → Checks
-allChecks D sources before = inputChecks (D .k * D .bytes) sources ++ outputChecks (placeOf D (leb (D .k)) (D .k + D .m)) before
+module _ (D : Desk) where
+  open Desk D using (k, m)
 
-pub record AllGiven (D : Desk) (sources before : List ℕ) (number : ℕ) (after : List ℕ) : Type 0 where
-  pub numbered : Checked (allChecks D sources before) number
-  pub refused : (number ≡ 0 → ⊥) → after ≡ before
-  pub done : number ≡ 0 → after ≡ paritiesOf D sources
+  -- 4 5 of encode all
+  abbrev pub allChecks : List ℕ → List ℕ → Checks
+  allChecks sources before = inputChecks (sourcesBytes D) sources ++ outputChecks (paritiesBytes D) before
 
--- 4 5 of encode one, for packet i, from 0
-abbrev pub lendChecks : Desk → ℕ → List ℕ → List ℕ → Checks
-lendChecks D i sources before = inputChecks (D .k * D .bytes) sources ++ outputChecks (packetBytes D i) before
+  abbrev pub AllGiven : List ℕ → List ℕ → ℕ → List ℕ → Type 0
+  AllGiven sources before number after = Answered (allChecks sources before) number (after ≡ before) (after ≡ paritiesOf D sources)
 
-pub record PacketGiven (D : Desk) (i : ℕ) (sources before : List ℕ) (number : ℕ) (after : List ℕ) : Type 0 where
-  pub numbered : Checked (lendChecks D i sources before) number
-  pub refused : (number ≡ 0 → ⊥) → after ≡ before
-  pub done : number ≡ 0 → after ≡ packetOf D sources i
+  -- 4 5 of encode one, for packet i, from 0
+  abbrev pub lendChecks : ℕ → List ℕ → List ℕ → Checks
+  lendChecks i sources before = inputChecks (sourcesBytes D) sources ++ outputChecks (packetBytes D i) before
 
--- 6 4 5 of encode one, for a packet's number, from 1
-pub record OneGiven (D : Desk) (packet : ℕ) (sources before : List ℕ) (number : ℕ) (after : List ℕ) : Type 0 where
-  pub numbered : Checked (numberChecks (D .k + D .m) packet ++ lendChecks D (packet - 1) sources before) number
-  pub refused : (number ≡ 0 → ⊥) → after ≡ before
-  pub done : number ≡ 0 → after ≡ packetOf D sources (packet - 1)
+  abbrev pub EncodingGiven : ℕ → List ℕ → List ℕ → ℕ → List ℕ → Type 0
+  EncodingGiven i sources before number after = Answered (lendChecks i sources before) number (after ≡ before) (after ≡ packetOf D sources i)
 
--- 6 of packet length
-pub record LengthGiven (D : Desk) (packet number length : ℕ) : Type 0 where
-  pub numbered : Checked (numberChecks (D .k + D .m) packet) number
-  pub refused : (number ≡ 0 → ⊥) → length ≡ 0
-  pub done : number ≡ 0 → length ≡ packetBytes D (packet - 1)
+  -- 6 4 5 of encode one, for a packet's number, from 1
+  abbrev pub oneChecks : ℕ → List ℕ → List ℕ → Checks
+  oneChecks packet sources before = numberChecks (k + m) packet ++ lendChecks (packet - 1) sources before
+
+  abbrev pub OneGiven : ℕ → List ℕ → List ℕ → ℕ → List ℕ → Type 0
+  OneGiven packet sources before number after = Answered (oneChecks packet sources before) number (after ≡ before) (after ≡ packetOf D sources (packet - 1))
+
+  -- 6 of packet length
+  abbrev pub LengthGiven : ℕ → ℕ → ℕ → Type 0
+  LengthGiven packet number length = Answered (numberChecks (k + m) packet) number (length ≡ 0) (length ≡ packetBytes D (packet - 1))

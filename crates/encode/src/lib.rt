@@ -1,20 +1,10 @@
-// Encoding: each parity is the sum of the sources, shifted up by the entries of its row.
-pub mod row;
-
-use table::Number;
+// Encoding: all parities, or one packet; and how long packets are.
 use table::Shape;
 use table::Table;
 ghost use mathlib.Core.Path.{_≡_};
-ghost use mathlib.Core.List.{_++_};
-ghost use lib.Dec.{leb};
-ghost use lib.ListN.{length};
-ghost use Prim.Native.Nat.{ℕ, _+_, _-_, _*_, _≤_, _<_};
-ghost use Rattle.table.specs.Limits.{maxK, maxLength};
-ghost use Rattle.table.specs.Desk.{sourceBytes, packetBytes, placeOf};
+ghost use Prim.Native.Nat.{_+_, _<_};
 ghost use Rattle.table.specs.Table.{Within, deskOf};
-ghost use Rattle.table.specs.Checks.{Checked, inputChecks, outputChecks};
-ghost use Rattle.encode.specs.Code.{packetOf, paritiesOf};
-ghost use Rattle.encode.specs.Stages.{AllGiven, PacketGiven, OneGiven, LengthGiven};
+ghost use Rattle.encode.specs.Stages.{AllGiven, EncodingGiven, OneGiven, LengthGiven};
 ghost use Rattle.encode.specs.Promise.{EncodedAll, EncodedOne, PacketMeasured, SurvivorsMeasured};
 
 // A number, and a length in bytes.
@@ -23,48 +13,17 @@ pub struct LengthAnswer {
     pub length: u64,
 }
 
-// 4 and 5: what a call lends is as long as it has to be.
-pub fn lengths_number(input: &[u8], needed: usize, output: &[u8], room: usize) -> u64
-    ensures { λ r. ⌜ Checked (inputChecks needed (now (input .entry)) ++ outputChecks room (now (output .entry))) r ⌝ }
-{
-    if input.len() != needed {
-        return Number::INPUT;
-    }
-    if output.len() != room {
-        return Number::OUTPUT;
-    }
-    0
-}
-
-// The bytes of all sources.
-pub fn sources_bytes(s: Shape) -> usize
-    requires { ⌜ (s .k ≤ maxK) × (s .length ≤ maxLength) ⌝ }
-    ensures { λ r. ⌜ r ≡ s .k * sourceBytes (s .length) ⌝ }
-{
-    s.k * table::source_bytes(s)
-}
-
-// Every parity into out, which is as long as they are.
-fn encode_parities(s: Shape, shifts: &[u8; Table::CELLS], sources: &[u8], out: &mut [u8])
-    requires { ⌜ Within s (now shifts) × (length (now sources) ≡ s .k * s .length) × (length (now out) ≡ placeOf (deskOf s (now shifts)) (leb (s .k)) (s .k + s .m)) ⌝ }
-    ensures { λ _. ⌜ now (out .exit) ≡ paritiesOf (deskOf s (now (shifts .entry))) (now (sources .entry)) ⌝ }
-{
-    bits::clear(out);
-    row::add_rows(s, shifts, sources, out);
-    bits::known(out);
-}
-
 // 4 and 5, and all parities of the sources.
 fn all_parities(s: Shape, shifts: &[u8; Table::CELLS], sources: &[u8], out: &mut [u8]) -> u64
     requires { ⌜ Within s (now shifts) ⌝ }
     ensures { λ r. ⌜ AllGiven (deskOf s (now (shifts .entry))) (now (sources .entry)) (now (out .entry)) r (now (out .exit)) ⌝ }
 {
     let room = table::packets::parities_bytes(s, shifts);
-    let number = lengths_number(sources, sources_bytes(s), out, room);
+    let number = checks::lengths_number(sources, table::packets::sources_bytes(s), out, room);
     if number != 0 {
         return number;
     }
-    encode_parities(s, shifts, sources, out);
+    code::encode_parities(s, shifts, sources, out);
     0
 }
 
@@ -72,37 +31,13 @@ fn all_parities(s: Shape, shifts: &[u8; Table::CELLS], sources: &[u8], out: &mut
 pub fn encode_all(k: u64, m: u64, l: u64, table: &[u8], sources: &[u8], out: &mut [u8]) -> u64
     ensures { λ r. ⌜ EncodedAll k m l (now (table .entry)) (now (sources .entry)) (now (out .entry)) r (now (out .exit)) ⌝ }
 {
-    let o = table::open_shape(k, m, l, table, 0);
+    let o = checks::open_shape(k, m, l, table, 0);
     if o.number != 0 {
         return o.number;
     }
     let t = o.table;
     let shifts = t.shifts;
     all_parities(o.shape, &shifts, sources, out)
-}
-
-// Packet i, from 0, of the sources, into out, which is as long as it is.
-pub fn encode_packet(
-    s: Shape,
-    shifts: &[u8; Table::CELLS],
-    i: usize,
-    sources: &[u8],
-    out: &mut [u8],
-)
-    requires { ⌜ Within s (now shifts) × (i < s .k + s .m) × (length (now sources) ≡ s .k * s .length) × (length (now out) ≡ packetBytes (deskOf s (now shifts)) i) ⌝ }
-    ensures { λ _. ⌜ now (out .exit) ≡ packetOf (deskOf s (now (shifts .entry))) (now (sources .entry)) i ⌝ }
-{
-    let k = s.k;
-    let bytes = table::source_bytes(s);
-    if i < k {
-        let from = i * bytes;
-        let end = from + bytes;
-        bits::copy_front(out, &sources[from..end]);
-        return;
-    }
-    bits::clear(out);
-    row::add_row(s, shifts, i - k, sources, out, 0);
-    bits::known(out);
 }
 
 // 4 and 5, and packet i, from 0, of the sources.
@@ -113,15 +48,16 @@ fn packet_into(
     sources: &[u8],
     out: &mut [u8],
 ) -> u64
-    requires { ⌜ Within s (now shifts) × (i < s .k + s .m) ⌝ }
-    ensures { λ r. ⌜ PacketGiven (deskOf s (now (shifts .entry))) i (now (sources .entry)) (now (out .entry)) r (now (out .exit)) ⌝ }
+    requires { ⌜ Within s (now shifts) ⌝ }
+    requires { ⌜ i < s .k + s .m ⌝ }
+    ensures { λ r. ⌜ EncodingGiven (deskOf s (now (shifts .entry))) i (now (sources .entry)) (now (out .entry)) r (now (out .exit)) ⌝ }
 {
     let room = table::packets::packet_bytes(s, shifts, i);
-    let number = lengths_number(sources, sources_bytes(s), out, room);
+    let number = checks::lengths_number(sources, table::packets::sources_bytes(s), out, room);
     if number != 0 {
         return number;
     }
-    encode_packet(s, shifts, i, sources, out);
+    code::encode_packet(s, shifts, i, sources, out);
     0
 }
 
@@ -136,7 +72,7 @@ fn one_packet(
     requires { ⌜ Within s (now shifts) ⌝ }
     ensures { λ r. ⌜ OneGiven (deskOf s (now (shifts .entry))) packet (now (sources .entry)) (now (out .entry)) r (now (out .exit)) ⌝ }
 {
-    let which = table::one_of((s.k + s.m) as u64, packet);
+    let which = checks::one_of((s.k + s.m) as u64, packet);
     if which != 0 {
         return which;
     }
@@ -155,7 +91,7 @@ pub fn encode_one(
 ) -> u64
     ensures { λ r. ⌜ EncodedOne k m l (now (table .entry)) packet (now (sources .entry)) (now (out .entry)) r (now (out .exit)) ⌝ }
 {
-    let o = table::open_shape(k, m, l, table, 0);
+    let o = checks::open_shape(k, m, l, table, 0);
     if o.number != 0 {
         return o.number;
     }
@@ -176,7 +112,7 @@ fn one_length(s: Shape, shifts: &[u8; Table::CELLS], packet: u64) -> LengthAnswe
     requires { ⌜ Within s (now shifts) ⌝ }
     ensures { λ r. ⌜ LengthGiven (deskOf s (now (shifts .entry))) packet (r .number) (r .length) ⌝ }
 {
-    let which = table::one_of((s.k + s.m) as u64, packet);
+    let which = checks::one_of((s.k + s.m) as u64, packet);
     if which != 0 {
         return no_length(which);
     }
@@ -191,7 +127,7 @@ fn one_length(s: Shape, shifts: &[u8; Table::CELLS], packet: u64) -> LengthAnswe
 pub fn packet_length(k: u64, m: u64, l: u64, table: &[u8], packet: u64) -> LengthAnswer
     ensures { λ r. ⌜ PacketMeasured k m l (now (table .entry)) packet (r .number) (r .length) ⌝ }
 {
-    let o = table::open_shape(k, m, l, table, 0);
+    let o = checks::open_shape(k, m, l, table, 0);
     if o.number != 0 {
         return no_length(o.number);
     }
@@ -204,7 +140,7 @@ pub fn packet_length(k: u64, m: u64, l: u64, table: &[u8], packet: u64) -> Lengt
 pub fn survivors_length(k: u64, m: u64, l: u64, table: &[u8], marks: u64) -> LengthAnswer
     ensures { λ r. ⌜ SurvivorsMeasured k m l (now (table .entry)) marks (r .number) (r .length) ⌝ }
 {
-    let o = table::open_marked(k, m, l, table, marks);
+    let o = checks::open_marked(k, m, l, table, marks);
     if o.number != 0 {
         return no_length(o.number);
     }

@@ -100,7 +100,7 @@ fn say_answer(number: u64, bytes: &[u8]) {
 // The house table of three sources and three parities.
 fn family() {
     let mut rows = [0u8; 9];
-    table::house::family_table(3, 3, &mut rows);
+    family::family_table(3, 3, &mut rows);
     say(b"k = 3, m = 3: rows ");
     say_entries(&rows);
     say(b"\n");
@@ -139,7 +139,7 @@ fn walked(table: &[u8], k: u64, marks: u64) {
 
 // Whether a table of two rows has growing differences.
 fn judged(table: &[u8]) {
-    let a = table::judge::judge(2, 2, table);
+    let a = family::judge::judge(2, 2, table);
     if a.growing == 1 {
         say(b"judge: yes\n");
     } else {

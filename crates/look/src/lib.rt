@@ -4,14 +4,14 @@ use table::Shape;
 use table::Table;
 ghost use mathlib.Core.Path.{_≡_};
 ghost use lib.ListN.{length};
-ghost use Prim.Native.Nat.{_+_, _*_, _/_, _^_, _≤_, _<_};
+ghost use Prim.Native.Nat.{_+_, _≤_, _<_};
 ghost use Rattle.bits.specs.Sums.{count};
-ghost use Rattle.table.specs.Limits.{maxK, maxM};
+ghost use Rattle.table.specs.Limits.{maxK};
 ghost use Rattle.table.specs.Desk.{mark};
 ghost use Rattle.table.specs.Table.{Within, deskOf};
 ghost use Rattle.table.specs.Checks.{Checked};
-ghost use Rattle.look.specs.Promise.{LookedAt, Looked, PartOf, Stands, sourceChecks, buffersChecks};
-ghost use Rattle.look.specs.Stages.{Found};
+ghost use Rattle.look.specs.Stages.{Stands, Found, buffersChecks};
+ghost use Rattle.look.specs.Promise.{LookedAt, Looked, PartOf};
 
 // Where a source stands: buffer 1 is the survivors', 2 the rebuilt one; start and length are in bytes.
 pub struct LookAnswer {
@@ -30,27 +30,15 @@ impl Buffer {
     pub const REBUILT: u64 = 2;
 }
 
-// 6 and 7.
-fn source_number(s: Shape, source: u64) -> u64
-    requires { ⌜ (s .k ≤ maxK) × (s .m ≤ maxM) ⌝ }
-    ensures { λ r. ⌜ Checked (sourceChecks (s .k) (s .m) (s .marks) source) r ⌝ }
-{
-    let which = table::one_of(s.k as u64, source);
-    if which != 0 {
-        return which;
-    }
-    table::marks_number(s.k, s.m, s.marks)
-}
-
 // 4.
 fn buffers_number(s: Shape, shifts: &[u8; Table::CELLS], survivors: &[u8], rebuilt: &[u8]) -> u64
-    requires { ⌜ Within s (now shifts) × (s .marks / 2 ^ (s .k + s .m) ≡ 0) ⌝ }
+    requires { ⌜ Within s (now shifts) ⌝ }
     ensures { λ r. ⌜ Checked (buffersChecks (deskOf s (now (shifts .entry))) (now (survivors .entry)) (now (rebuilt .entry))) r ⌝ }
 {
     if survivors.len() != table::packets::survivors_bytes(s, shifts) {
         return Number::INPUT;
     }
-    if rebuilt.len() != encode::sources_bytes(s) {
+    if rebuilt.len() != table::packets::sources_bytes(s) {
         return Number::INPUT;
     }
     0
@@ -66,7 +54,8 @@ fn present_before(marks: u64, i: usize) -> usize
 
 // Where source i, from 0, stands.
 fn standing(s: Shape, shifts: &[u8; Table::CELLS], i: usize) -> LookAnswer
-    requires { ⌜ Within s (now shifts) × (i < s .k) ⌝ }
+    requires { ⌜ Within s (now shifts) ⌝ }
+    requires { ⌜ i < s .k ⌝ }
     ensures { λ r. ⌜ (r .number ≡ 0) × Stands (deskOf s (now (shifts .entry))) i (r .buffer) (r .start) × (r .length ≡ deskOf s (now (shifts .entry)) .bytes) ⌝ }
 {
     let bytes = table::source_bytes(s);
@@ -109,7 +98,7 @@ fn found(
     requires { ⌜ Within s (now shifts) ⌝ }
     ensures { λ r. ⌜ Found (deskOf s (now (shifts .entry))) (s .marks) source (now (survivors .entry)) (now (rebuilt .entry)) (r .number) (r .buffer) (r .start) (r .length) ⌝ }
 {
-    let which = source_number(s, source);
+    let which = checks::asked_number(s, s.k, source);
     if which != 0 {
         return nowhere(which);
     }
@@ -133,7 +122,7 @@ pub fn look_at(
 ) -> LookAnswer
     ensures { λ r. ⌜ LookedAt k m l (now (table .entry)) marks source (now (survivors .entry)) (now (rebuilt .entry)) (r .number) (r .buffer) (r .start) (r .length) ⌝ }
 {
-    let o = table::open_shape(k, m, l, table, marks);
+    let o = checks::open_shape(k, m, l, table, marks);
     if o.number != 0 {
         return nowhere(o.number);
     }

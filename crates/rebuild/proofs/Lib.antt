@@ -1,5 +1,3 @@
-pub mod StrayLaws
 pub mod AnswerLaws
-pub mod StageLaws
 pub mod OneAnswer
 pub mod NoneMissing

@@ -1,58 +1,40 @@
--- What is left of rebuild and repair once the shape is accepted, over the desk of that shape.
+-- What is left of rebuild once the shape is accepted, over the desk of that shape.
 use mathlib.Core.Path.{_≡_}
-use mathlib.Core.Logic.{_⊎_}
-use mathlib.Core.List.{List, _∷_, _++_}
-use Prim.Native.Nat.{ℕ, _+_, _-_, _*_, _<_}
-use Rattle.table.specs.Desk.{Desk, packetBytes, placeOf}
-use Rattle.table.specs.Checks.{Checks, Checked, Outside, MarkAbove, countChecks, inputChecks, outputChecks}
-use Rattle.encode.specs.Code.{packetOf}
-use Rattle.decode.specs.Packets.{Ended, Finishes, EncodesTo}
-use Rattle.rebuild.specs.Promise.{decodeChecks}
+use mathlib.Core.List.{List, _++_}
+use Prim.Native.Nat.{ℕ}
+use Rattle.table.specs.Desk.{Desk, sourcesBytes, survivorsBytes}
+use Rattle.table.specs.Checks.{Checks, Answered, inputChecks, outputChecks}
+use Rattle.walk.specs.Ends.{Ended, Finishes, stallChecks}
+use Rattle.survivors.specs.Packets.{EncodesTo, packetsChecks}
 
-module _ (D : Desk) (packets : List ℕ) where
-  open Desk D using (k, m, bytes, present)
+module _ (D : Desk) where
+  -- refused: with 8 the steps made before the stall, else none
+  abbrev pub StepsTold : ℕ → ℕ → Type 0
+  StepsTold number count = (number ≡ 8 → Ended D count) × ((number ≡ 8 → ⊥) → count ≡ 0)
 
-  -- 8 9 10; with 8 the steps made, with 0 those that finish all missing sources, and then the sources encode to the packets
-  pub record Recovered (number count : ℕ) (sources : List ℕ) : Type 0 where
-    pub numbered : Checked (decodeChecks D packets) number
-    pub stalled : number ≡ 8 → Ended D count
-    pub uncounted : (number ≡ 0 → ⊥) → (number ≡ 8 → ⊥) → count ≡ 0
-    pub finished : number ≡ 0 → Finishes D count
-    pub done : number ≡ 0 → EncodesTo D packets sources
+  module _ (packets : List ℕ) where
+    -- 8 9 10
+    abbrev pub decodeChecks : Checks
+    decodeChecks = stallChecks D ++ packetsChecks D packets
 
-  -- 4 5 8 9 10 of rebuild
-  abbrev pub lentChecks : List ℕ → Checks
-  lentChecks before = inputChecks (placeOf D present (k + m)) packets ++ outputChecks (k * bytes) before ++ decodeChecks D packets
+    -- the steps that finish all missing sources, and the sources that encode to the packets
+    abbrev pub SourcesFound : ℕ → List ℕ → Type 0
+    SourcesFound count sources = Finishes D count × EncodesTo D packets sources
 
-  pub record RebuildGiven (before : List ℕ) (number count : ℕ) (after : List ℕ) : Type 0 where
-    pub numbered : Checked (lentChecks before) number
-    pub refused : (number ≡ 0 → ⊥) → after ≡ before
-    pub stalled : number ≡ 8 → Ended D count
-    pub uncounted : (number ≡ 0 → ⊥) → (number ≡ 8 → ⊥) → count ≡ 0
-    pub finished : number ≡ 0 → Finishes D count
-    pub done : number ≡ 0 → EncodesTo D packets after
+    abbrev pub Recovered : ℕ → ℕ → List ℕ → Type 0
+    Recovered number count sources = Answered decodeChecks number (StepsTold number count) (SourcesFound count sources)
 
-  -- 8 9 10 of repair, for packet i, from 0
-  pub record PacketRecovered (i : ℕ) (before : List ℕ) (number : ℕ) (after : List ℕ) : Type 0 where
-    pub numbered : Checked (decodeChecks D packets) number
-    pub refused : (number ≡ 0 → ⊥) → after ≡ before
-    pub done : number ≡ 0 → (x : List ℕ) × EncodesTo D packets x × (after ≡ packetOf D x i)
+    -- so, with an output that keeps its bytes where refused
+    abbrev pub RebuildMade : List ℕ → ℕ → ℕ → List ℕ → Type 0
+    RebuildMade before number count after = Answered decodeChecks number ((after ≡ before) × StepsTold number count) (SourcesFound count after)
 
-  -- 4 5 8 9 10 of repair
-  abbrev pub packetChecks : ℕ → List ℕ → Checks
-  packetChecks i before = inputChecks (placeOf D present (k + m)) packets ++ outputChecks (packetBytes D i) before ++ decodeChecks D packets
+    -- 4 5
+    abbrev pub rebuildLengthsChecks : List ℕ → Checks
+    rebuildLengthsChecks before = inputChecks (survivorsBytes D) packets ++ outputChecks (sourcesBytes D) before
 
-  pub record PacketGiven (i : ℕ) (before : List ℕ) (number : ℕ) (after : List ℕ) : Type 0 where
-    pub numbered : Checked (packetChecks i before) number
-    pub refused : (number ≡ 0 → ⊥) → after ≡ before
-    pub done : number ≡ 0 → (x : List ℕ) × EncodesTo D packets x × (after ≡ packetOf D x i)
+    -- 4 5 8 9 10
+    abbrev pub rebuildLentChecks : List ℕ → Checks
+    rebuildLentChecks before = rebuildLengthsChecks before ++ decodeChecks
 
--- 6 7 of repair
-abbrev pub namedChecks : ℕ → ℕ → ℕ → ℕ → Checks
-namedChecks k m marks packet = (6, MarkAbove (k + m) marks ⊎ Outside (k + m) packet) ∷ countChecks k m marks
-
--- 6 7 4 5 8 9 10 of repair, for a packet's number, from 1
-pub record RepairGiven (D : Desk) (marks : ℕ) (packets : List ℕ) (packet : ℕ) (before : List ℕ) (number : ℕ) (after : List ℕ) : Type 0 where
-  pub numbered : Checked (namedChecks (D .k) (D .m) marks packet ++ packetChecks D packets (packet - 1) before) number
-  pub refused : (number ≡ 0 → ⊥) → after ≡ before
-  pub done : number ≡ 0 → (x : List ℕ) × EncodesTo D packets x × (after ≡ packetOf D x (packet - 1))
+    abbrev pub RebuildGiven : List ℕ → ℕ → ℕ → List ℕ → Type 0
+    RebuildGiven before number count after = Answered (rebuildLentChecks before) number ((after ≡ before) × StepsTold number count) (SourcesFound count after)

@@ -1,19 +1,16 @@
 // Rebuilding: the sources read back from any k packets.
-pub mod repair;
-
 use table::Number;
 use table::Shape;
 use table::Table;
 ghost use mathlib.Core.Path.{_≡_};
 ghost use lib.ListN.{length, take};
-ghost use Prim.Native.Nat.{ℕ, _+_, _-_, _*_, _/_, _^_, _≤_, _<_};
-ghost use Rattle.bits.specs.Bits.{bitAt, Tells};
-ghost use Rattle.table.specs.Limits.{maxK, maxLength};
-ghost use Rattle.table.specs.Desk.{mark, placeOf};
-ghost use Rattle.table.specs.Table.{Within, deskOf};
-ghost use Rattle.decode.specs.Packets.{Stray};
+ghost use Prim.Native.Nat.{_≤_};
+ghost use Rattle.bits.specs.Bits.{Noughts};
+ghost use Rattle.table.specs.Limits.{allSources};
+ghost use Rattle.table.specs.Desk.{sourcesBytes};
+ghost use Rattle.table.specs.Table.{Ready, Survivors, deskOf};
+ghost use Rattle.rebuild.specs.Stages.{Recovered, RebuildMade, RebuildGiven};
 ghost use Rattle.rebuild.specs.Promise.{Rebuilt};
-ghost use Rattle.rebuild.specs.Stages.{Recovered, RebuildGiven};
 
 // What rebuild gives: the count of steps, with 8 those made before the stall.
 pub struct RebuildAnswer {
@@ -21,38 +18,17 @@ pub struct RebuildAnswer {
     pub count: u64,
 }
 
-// Whether a packet at hand has a one above its last bit, from one mark to the next.
-fn stray(s: Shape, shifts: &[u8; Table::CELLS], packets: &[u8]) -> bool
-    requires { ⌜ Within s (now shifts) × (s .marks / 2 ^ (s .k + s .m) ≡ 0) × (length (now packets) ≡ placeOf (deskOf s (now shifts)) (mark (s .marks)) (s .k + s .m)) ⌝ }
-    ensures { λ r. ⌜ Tells r (Stray (deskOf s (now (shifts .entry))) (now (packets .entry))) ⌝ }
-{
-    let mut from = 0;
-    let mut next = 0;
-    let mut rest = s.marks;
-    while rest != 0 {
-        let skip = table::packets::lowest_present(rest);
-        let i = next + skip;
-        let end = from + table::packets::packet_bytes(s, shifts, i);
-        let last = table::packets::packet_bits(s, shifts, i);
-        if !bits::clear_above(&packets[from..end], last) {
-            return true;
-        }
-        from = end;
-        next += skip + 1;
-        rest = rest >> skip >> 1;
-    }
-    false
-}
-
 // 8, 9 and 10, and the sources that encode to the packets.
 pub fn recover(
     s: Shape,
     shifts: &[u8; Table::CELLS],
     packets: &[u8],
-    sources: &mut [u8; decode::SOURCES],
+    sources: &mut [u8; Table::ALL_SOURCES],
 ) -> RebuildAnswer
-    requires { ⌜ Within s (now shifts) × (s .marks / 2 ^ (s .k + s .m) ≡ 0) × (length (now packets) ≡ placeOf (deskOf s (now shifts)) (mark (s .marks)) (s .k + s .m)) × ((p : ℕ) → bitAt (now sources) p ≡ 0) ⌝ }
-    ensures { λ r. ⌜ Recovered (deskOf s (now (shifts .entry))) (now (packets .entry)) (r .number) (r .count) (take (s .k * s .length) (now (sources .exit))) × (length (now (sources .exit)) ≡ maxK * maxLength) ⌝ }
+    requires { ⌜ Ready s (now shifts) ⌝ }
+    requires { ⌜ Survivors s (now shifts) (now packets) ⌝ }
+    requires { ⌜ Noughts (now sources) ⌝ }
+    ensures { λ r. ⌜ Recovered (deskOf s (now (shifts .entry))) (now (packets .entry)) (r .number) (r .count) (take (sourcesBytes (deskOf s (now (shifts .entry)))) (now (sources .exit))) × (length (now (sources .exit)) ≡ allSources) ⌝ }
 {
     let d = decode::read_back(s, shifts, packets, sources);
     if !d.whole {
@@ -61,7 +37,7 @@ pub fn recover(
             count: d.count,
         };
     }
-    if stray(s, shifts, packets) {
+    if survivors::stray(s, shifts, packets) {
         return refused(Number::STRAY);
     }
     if !d.consistent {
@@ -96,10 +72,12 @@ fn rebuild_into(
     packets: &[u8],
     out: &mut [u8],
 ) -> RebuildAnswer
-    requires { ⌜ Within s (now shifts) × (s .marks / 2 ^ (s .k + s .m) ≡ 0) × (length (now packets) ≡ placeOf (deskOf s (now shifts)) (mark (s .marks)) (s .k + s .m)) × (length (now out) ≡ s .k * s .length) ⌝ }
-    ensures { λ r. ⌜ Recovered (deskOf s (now (shifts .entry))) (now (packets .entry)) (r .number) (r .count) (now (out .exit)) × ((r .number ≡ 0 → ⊥) → now (out .exit) ≡ now (out .entry)) ⌝ }
+    requires { ⌜ Ready s (now shifts) ⌝ }
+    requires { ⌜ Survivors s (now shifts) (now packets) ⌝ }
+    requires { ⌜ length (now out) ≡ sourcesBytes (deskOf s (now shifts)) ⌝ }
+    ensures { λ r. ⌜ RebuildMade (deskOf s (now (shifts .entry))) (now (packets .entry)) (now (out .entry)) (r .number) (r .count) (now (out .exit)) ⌝ }
 {
-    let mut sources = [0u8; decode::SOURCES];
+    let mut sources = [0u8; Table::ALL_SOURCES];
     let r = recover(s, shifts, packets, &mut sources);
     if r.number != 0 {
         return r;
@@ -115,11 +93,11 @@ fn rebuild_lent(
     packets: &[u8],
     out: &mut [u8],
 ) -> RebuildAnswer
-    requires { ⌜ Within s (now shifts) × (s .marks / 2 ^ (s .k + s .m) ≡ 0) ⌝ }
+    requires { ⌜ Ready s (now shifts) ⌝ }
     ensures { λ r. ⌜ RebuildGiven (deskOf s (now (shifts .entry))) (now (packets .entry)) (now (out .entry)) (r .number) (r .count) (now (out .exit)) ⌝ }
 {
     let needed = table::packets::survivors_bytes(s, shifts);
-    let number = encode::lengths_number(packets, needed, out, encode::sources_bytes(s));
+    let number = checks::lengths_number(packets, needed, out, table::packets::sources_bytes(s));
     if number != 0 {
         return refused(number);
     }
@@ -138,7 +116,7 @@ pub fn rebuild(
 ) -> RebuildAnswer
     ensures { λ r. ⌜ Rebuilt k m l (now (table .entry)) marks (now (packets .entry)) (now (out .entry)) (r .number) (r .count) (now (out .exit)) ⌝ }
 {
-    let o = table::open_marked(k, m, l, table, marks);
+    let o = checks::open_marked(k, m, l, table, marks);
     if o.number != 0 {
         return refused(o.number);
     }

@@ -1,9 +1,3 @@
-pub mod Numerals
-pub mod Readings
-pub mod Lines
-pub mod Orders
-pub mod Holding
-pub mod Successors
 pub mod Writings
 pub mod Marking
 pub mod Rows

@@ -1,4 +1,4 @@
--- The marks of a choice: one for each number, none above, as many as the numbers. Assumes nothing.
+-- The marks of a choice: one for each number, none above, as many as the numbers.
 use mathlib.Core.Path.{_≡_, refl, sym, ap, _∙_}
 use mathlib.Core.Bool.{true, false, cond, _||_, true≢false}
 use mathlib.Core.List.{List, [], _∷_}
@@ -16,9 +16,9 @@ use Rattle.bits.specs.Bits.{bit}
 use Rattle.bits.proofs.SumLaws.{oneAt-same, oneAt-other, sum-nought, sum-but}
 use Rattle.bits.proofs.BitLaws.{bit-lt, bit-xor, bit-one, bit-zero}
 use Rattle.table.specs.Desk.{mark}
-use Rattle.sheet.specs.Choices.{Rising}
+use Rattle.choices.specs.Choices.{Rising}
+use Rattle.choices.proofs.Orders.{rising-drop}
 use Rattle.sheet.specs.Steps.{among, Marked}
-use Rattle.sheet.proofs.Orders.{rising-drop}
 
 marked-bit : (marks i : ℕ) → mark marks i ≡ eqb (bit marks i) 1
 unfolding bit
@@ -68,7 +68,8 @@ unfolding among
 count-among n low [] r = sum-nought n _ (λ c l. refl)
 count-among n low (x ∷ xs) r =
     let e : suc (x - 1) ≡ x = omega (arith, r .0) in
-    let w = sum-but n (x - 1) (λ i. cond (among (x ∷ xs) (suc i)) 1 0) (λ i. cond (among xs (suc i)) 1 0) (omega (arith, r .0, r .1)) (λ c l ne. ap (λ v. cond (v || among xs (suc c)) 1 0) (ne-eqb x (suc c) (λ q. ne (omega arith)))) in
+    let w = sum-but n (x - 1) (λ i. cond (among (x ∷ xs) (suc i)) 1 0) (λ i. cond (among xs (suc i)) 1 0) (omega (arith, r .0, r .1))
+    (λ c l ne. ap (λ v. cond (v || among xs (suc c)) 1 0) (ne-eqb x (suc c) (λ q. ne (omega arith)))) in
     let one : _≡_ {A = ℕ} (cond (among (x ∷ xs) (suc (x - 1))) 1 0) 1 = ap (λ v. cond (v || among xs (suc (x - 1))) 1 0) (eq-eqb x (suc (x - 1)) (sym e)) in
     let none : _≡_ {A = ℕ} (cond (among xs (suc (x - 1))) 1 0) 0 = ap (λ v. cond v 1 0) (not-among-low x n xs (suc (x - 1)) (r .2) (omega arith)) in
     omega (arith, w, one, none, count-among n x xs (r .2))
@@ -79,10 +80,11 @@ marked-start k xs l =
     rw (drop-of-length-le (take k xs) h) marked-none
 
 -- the mark of the number before those that are marked
-pub marked-before : (n k : ℕ) (xs : List ℕ) (j marks : ℕ) → k ≤ length xs → j < k → 0 < at xs j → at xs j ≤ 64 → Rising 0 n (take k xs) → Marked (drop (suc j) (take k xs)) marks → Marked (drop j (take k xs)) (bitXor marks (1 * 2 ^ (at xs j - 1) % 2 ^ 64))
-marked-before n k xs j marks l lj low high r h =
+pub marked-before : (n k : ℕ) (xs : List ℕ) (j marks width : ℕ) → k ≤ length xs → j < k → 0 < at xs j → at xs j ≤ width → Rising 0 n (take k xs)
+    → Marked (drop (suc j) (take k xs)) marks → Marked (drop j (take k xs)) (bitXor marks (1 * 2 ^ (at xs j - 1) % 2 ^ width))
+marked-before n k xs j marks width l lj low high r h =
     let lt : length (take k xs) ≡ k = simp length-take (omega arith) in
     let e = getD-take k xs j 0 lj in
     let c = drop-cons (take k xs) j 0 (omega arith) in
-    let q : 1 * 2 ^ (at xs j - 1) % 2 ^ 64 ≡ 1 * 2 ^ (at (take k xs) j - 1) = shl-exact 1 (at xs j - 1) 64 (lit< tt) (omega arith) ∙ ap (λ x. 1 * 2 ^ (x - 1)) (sym e) in
+    let q : 1 * 2 ^ (at xs j - 1) % 2 ^ width ≡ 1 * 2 ^ (at (take k xs) j - 1) = shl-exact 1 (at xs j - 1) width (lit< tt) (omega arith) ∙ ap (λ x. 1 * 2 ^ (x - 1)) (sym e) in
     rw (c, q) (marked-more n (at (take k xs) j) marks (drop (suc j) (take k xs)) (omega arith) (rising-drop n 0 (take k xs) (suc j) r (omega arith)) h)

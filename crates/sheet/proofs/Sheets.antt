@@ -1,4 +1,4 @@
--- The whole output is one, every choice has its line in it, and the pieces of the calls, joined, are it. Assumes nothing.
+-- The whole output is one, every choice has its line in it, and the pieces of the calls, joined, are it.
 use mathlib.Core.Path.{_≡_, refl, sym, ap, ap₂, subst, _∙_}
 use mathlib.Core.Logic.{_⊎_, inl, inr}
 use mathlib.Core.Bool.{cond}
@@ -6,44 +6,37 @@ use mathlib.Core.List.{List, [], _∷_, _++_, append-nil, append-assoc}
 use Prim.Native.Nat.{ℕ, suc, _+_, _-_, _*_, _/_, _%_, _≤_, _<_}
 use native.Mathlib.Omega.{arith}
 use native.Mathlib.Nat.{mul-le-mul}
-use native.Mathlib.Decide.{ℕ-discrete, decLt}
+use native.Mathlib.Decide.{decLt}
 use lib.ListN.{length, take, List·getD-eq-default}
 use lib.Seq.{take-at}
 use Rattle.bits.specs.Sums.{at, count}
 use Rattle.bits.proofs.SumLaws.{sum-same}
-use Rattle.table.specs.Limits.{maxLength, maxShift}
+use Rattle.table.specs.Limits.{maxK, maxM, maxLength, maxShift, noughts}
+use Rattle.table.specs.Desk.{mark}
 use Rattle.table.specs.Checks.{Checked, Outside, MarkAbove, sizeChecks, lengthChecks, tableChecks, shapeChecks, marksChecks, markedChecks}
-use Rattle.table.specs.Promise.{HouseTable}
-use Rattle.table.proofs.CheckLaws.{Sized, sized, checked-once, goes, passed, neither}
-use Rattle.sheet.specs.Text.{header, choiceText, refusal}
-use Rattle.sheet.specs.Choices.{Rising, Before, Full, Choice, First, Next, Last, padded, noughts, Held, Begins, Follows, OrNoughts}
-use Rattle.sheet.specs.Printing.{room, Printed}
-use Rattle.sheet.specs.Steps.{Marked, WalkOf, NoRow, RowPrinted}
-use Rattle.sheet.specs.Promise.{Line, lineChecks, valueChecks, sheetChecks, LineRead}
+use Rattle.family.specs.Promise.{HouseTable}
+use Rattle.table.proofs.CheckLaws.{numbered-by, Sized, sized, checked-once, goes, passed, neither}
+use Rattle.choices.specs.Choices.{Before, Choice, First, Next}
+use Rattle.choices.specs.Promise.{Holding, Begins, OrNoughts}
+use Rattle.choices.proofs.Successors.{one-held, held-not-noughts, last-where-none-follows, begins-run, one-least}
+use Rattle.line.specs.Promise.{Line, lineChecks, valueChecks, sheetChecks, LineRead}
+use Rattle.line.proofs.Lines.{one-line}
+use Rattle.sheet.specs.Printing.{header, choiceText, refusal, room}
+use Rattle.sheet.specs.Steps.{Marked, WalkOf}
+use Rattle.sheet.specs.Promise.{Printed, NoRow, RowPrinted}
 use Rattle.sheet.specs.Sheet.{Row, Lines, last, more, Output, refused, printed, Pieces, none, piece}
-use Rattle.sheet.proofs.Orders.{rising-room, next-choice, last-choice, grown}
-use Rattle.sheet.proofs.Lines.{one-line}
-use Rattle.sheet.proofs.Successors.{held-take, begins-run, one-least}
 use Rattle.sheet.proofs.Marking.{among-high, count-among}
-use Rattle.sheet.proofs.Rows.{entry-place, one-walk-of}
-
--- the house table has no entry above the largest shift
-house-low : (k m : ℕ) (table : List ℕ) → Sized k m → HouseTable k m table → (i : ℕ) → maxShift < at table i → ⊥
-house-low k m table s h i l = elim (decLt i (m * k)) [
-  | yes q ↦ (
-      let e = entry-place k m table i (s .k-low) q in
-      let c = h .cell (i / k) (i % k) (e .0) (e .1) in
-      let a : i / k + 1 ≤ 8 = omega (arith, e .0, s .m-high) in
-      let b : i % k + 1 - 1 ≤ 8 = omega (arith, e .1, s .k-high) in
-      omega (arith, e .2, c, mul-le-mul a b))
-  | no q ↦ (let long : length table ≤ i = omega (arith, h .size) in omega (arith, List·getD-eq-default table 0 long))
-]
+use Rattle.sheet.proofs.Rows.{one-walk-of}
+use Rattle.family.proofs.HouseLaws.{house-low}
 
 -- the marks of a choice pass
 marks-pass : (k m : ℕ) (ids : List ℕ) (marks : ℕ) → Choice k (k + m) ids → Marked ids marks → Checked (marksChecks k m marks) 0
 marks-pass k m ids marks c h =
-    inr (λ w. above w, inr (λ n. n (sum-same (k + m) _ _ (λ i l. ap (λ v. cond v 1 0) (h i)) ∙ count-among (k + m) 0 ids (c .rising) ∙ c .size), refl))
+    inr (λ w. above w, inr (λ n. n counted, refl))
   where
+    counted : count (k + m) (mark marks) ≡ k
+    counted = sum-same (k + m) _ _ (λ i l. ap (λ v. cond v 1 0) (h i)) ∙ count-among (k + m) 0 ids (c .rising) ∙ c .size
+
     above : MarkAbove (k + m) marks → ⊥
     above w = omega (arith, w .1, among-high 0 (k + m) ids (suc (w .0)) (c .rising) (sym (h (w .0)) ∙ w .2))
 
@@ -51,47 +44,20 @@ module _ (k m l : ℕ) (size : Checked (sizeChecks k m) 0) (len : Checked (lengt
   -- the walk of a choice is not refused
   pub walk-not-refused : (ids : List ℕ) (number count : ℕ) → Choice k (k + m) ids → WalkOf k m l ids number count → number ≡ 0
   walk-not-refused ids number count c w =
-      let t : Checked (tableChecks k m (w .table)) 0 = inr (neither (λ n. n (w .house .size)) (λ x. house-low k m (w .table) (sized k m size) (w .house) (x .0) (x .1)), refl) in
-      let shape = goes (sizeChecks k m ++ lengthChecks l) (tableChecks k m (w .table)) 0 (omega arith) (goes (sizeChecks k m) (lengthChecks l) 0 (omega arith) size len) t in
-      checked-once (markedChecks k m l (w .table) (w .marks)) number 0 (w .walked .numbered) (goes (shapeChecks k m l (w .table)) (marksChecks k m (w .marks)) 0 (omega arith) shape (marks-pass k m ids (w .marks) c (w .marked)))
-
-  -- what is held, for a choice, is not noughts
-  held-not-noughts : {held ids : List ℕ} → Held k m held ids → held ≡ noughts → ⊥
-  held-not-noughts {held} {ids} h z = go ids (h .choice) (sym (h .held-is) ∙ z)
-    where
-      go : (ids : List ℕ) → Choice k (k + m) ids → padded ids ≡ noughts → ⊥
-      go [] c e = omega (arith, c .size, sized k m size .k-low)
-      go (x ∷ ids) c e = omega (arith, c .rising .0, ap (λ t. at t 0) e)
-
-  -- rising numbers are full, or the last that can grow parts them
-  full-or-grows : (n low : ℕ) (xs : List ℕ) → Rising low n xs → Full n xs ⊎ ((p : List ℕ) × (x : ℕ) × (t : List ℕ) × (xs ≡ p ++ x ∷ t) × Full n t × (x + length t < n))
-  full-or-grows n low [] r = inl tt
-  full-or-grows n low (x ∷ xs) r = go (full-or-grows n x xs (r .2))
-    where
-      go : Full n xs ⊎ ((p : List ℕ) × (y : ℕ) × (t : List ℕ) × (xs ≡ p ++ y ∷ t) × Full n t × (y + length t < n)) → Full n (x ∷ xs) ⊎ ((p : List ℕ) × (y : ℕ) × (t : List ℕ) × (x ∷ xs ≡ p ++ y ∷ t) × Full n t × (y + length t < n))
-      go (inl f) = elim (ℕ-discrete (x + length xs) n) [
-        | yes e ↦ inl (e, f)
-        | no ne ↦ inr ([], x, xs, refl, f, omega (arith, rising-room n low x xs r))
-      ]
-      go (inr g) = inr (x ∷ g .0, g .1, g .2, ap (λ u. x ∷ u) (g .3), g .4, g .5)
-
-  -- where nothing follows, the choice is the last
-  last-where-none-follows : {held ids : List ℕ} → Held k m held ids → ((other : List ℕ) → Follows k m held other → ⊥) → Last k (k + m) ids
-  last-where-none-follows {held} {ids} h n = go (full-or-grows (k + m) 0 ids (h .choice .rising))
-    where
-      go : Full (k + m) ids ⊎ ((p : List ℕ) × (x : ℕ) × (t : List ℕ) × (ids ≡ p ++ x ∷ t) × Full (k + m) t × (x + length t < k + m)) → Last k (k + m) ids
-      go (inl f) = last-choice k (k + m) ids (h .choice) f
-      go (inr g) =
-          let c : Choice k (k + m) (g .0 ++ g .1 ∷ g .2) = subst (Choice k (k + m)) (g .3) (h .choice) in
-          let next = grown (k + m) (g .1) (g .2) (g .0) in
-          let w : Next k (k + m) ids next = subst (λ u. Next k (k + m) u next) (sym (g .3)) (next-choice k (k + m) (g .1) (g .0) (g .2) c (g .4) (g .5)) in
-          absurd (n (padded next) (record { ids = ids; was = h; then = next; next = w; held-is = refl }))
+      let low = house-low k m (w .table) (sized k m size) (w .house) in
+      let t : Checked (tableChecks k m (w .table)) 0 = inr (neither (λ n. n (w .house .size)) (λ x. omega (arith, low (x .0), x .1)), refl) in
+      let front = sizeChecks k m ++ lengthChecks l in
+      let fits = goes (sizeChecks k m) (lengthChecks l) 0 (numbered-by (sizeChecks k m) refl) size len in
+      let shape = goes front (tableChecks k m (w .table)) 0 (numbered-by front refl) fits t in
+      let cs = shapeChecks k m l (w .table) in
+      let marked = goes cs (marksChecks k m (w .marks)) 0 (numbered-by cs refl) shape (marks-pass k m ids (w .marks) c (w .marked)) in
+      checked-once (markedChecks k m l (w .table) (w .marks)) number 0 (w .walked .numbered) marked
 
   -- the line that row printed
-  row-piece : {held ids before after : List ℕ} {count : ℕ} → Held k m held ids → room ≤ length before → RowPrinted k m l held before count after → Row k m l ids (take count after)
+  row-piece : {held ids before after : List ℕ} {count : ℕ} → Holding k m held ids → room ≤ length before → RowPrinted k m l held before count after → Row k m l ids (take count after)
   row-piece {held} {ids} {before} {after} {count} h b (inl p) =
       let r = p .1 in
-      let e : r .ids ≡ ids = held-take k m held (r .was) .0 ∙ sym (held-take k m held h .0) in
+      let e : r .ids ≡ ids = one-held k m held (r .was) h in
       let d = p .2 .done b in
       let t : take count after ≡ p .0 = ap₂ take (d .0) (d .1) ∙ take-at (p .0) _ (length (p .0)) refl in
       (r .count, subst (λ u. WalkOf k m l u 0 (r .count)) e (r .counted), t ∙ r .text-is ∙ ap (λ u. choiceText u (r .count)) e)
@@ -107,15 +73,15 @@ module _ (k m l : ℕ) (size : Checked (sizeChecks k m) 0) (len : Checked (lengt
   pieces-end z (piece count before after next rest n b p f ps e) = absurd (n z)
 
   -- the pieces from a choice on, joined, are its line and those of all after it
-  pub pieces-are-lines : {held text : List ℕ} → Pieces k m l held text → {ids : List ℕ} → Held k m held ids → Lines k m l ids text
-  pieces-are-lines (none z e) h = absurd (held-not-noughts h z)
+  pub pieces-are-lines : {held text : List ℕ} → Pieces k m l held text → {ids : List ℕ} → Holding k m held ids → Lines k m l ids text
+  pieces-are-lines {held} (none z e) h = absurd (held-not-noughts k m held h z)
   pieces-are-lines {held} (piece count before after next rest n b p (inl f) ps e) {ids} h =
-      let same : f .ids ≡ ids = held-take k m held (f .was) .0 ∙ sym (held-take k m held h .0) in
-      let then : Held k m next (f .then) = record { sized = size; choice = f .next .choice; held-is = f .held-is } in
+      let same : f .ids ≡ ids = one-held k m held (f .was) h in
+      let then : Holding k m next (f .then) = record { sized = size; choice = f .next .choice; held-is = f .held-is } in
       more (take count after) (f .then) rest (row-piece h b p) (subst (λ u. Next k (k + m) u (f .then)) same (f .next)) (pieces-are-lines ps then) e
-  pieces-are-lines (piece count before after next rest n b p (inr f) ps e) {ids} h =
+  pieces-are-lines {held} (piece count before after next rest n b p (inr f) ps e) {ids} h =
       let alone = e ∙ ap (λ t. take count after ++ t) (pieces-end (f .1) ps) ∙ append-nil (take count after) in
-      last (subst (Row k m l ids) (sym alone) (row-piece h b p)) (last-where-none-follows h (f .0))
+      last (subst (Row k m l ids) (sym alone) (row-piece h b p)) (last-where-none-follows k m held h (f .0))
 
 -- the length and the size of a line that is not refused
 values-pass : (input : List ℕ) {k m l : ℕ} → Line input k m l → Checked (sheetChecks input) 0 → Checked (sizeChecks k m) 0 × Checked (lengthChecks l) 0
@@ -141,7 +107,8 @@ module _ (input : List ℕ) {number k m l : ℕ} (read : LineRead (sheetChecks i
   refusal-is-output n b p = refused number (read .numbered) n (piece-text b p)
 
   -- else the header and the pieces from the first choice on, joined, are the whole output
-  pub pieces-are-output : {before after held text : List ℕ} {count : ℕ} → number ≡ 0 → room ≤ length before → Printed header before count after → OrNoughts (Begins k m) held → Pieces k m l held text → Output input (take count after ++ text)
+  pub pieces-are-output : {before after held text : List ℕ} {count : ℕ} → number ≡ 0 → room ≤ length before → Printed header before count after
+      → OrNoughts (Begins k m) held → Pieces k m l held text → Output input (take count after ++ text)
   pieces-are-output {after = after} {held = held} {text = text} {count = count} z b p f ps =
       let c = subst (Checked (sheetChecks input)) z (read .numbered) in
       let x = read .done z in
@@ -149,11 +116,14 @@ module _ (input : List ℕ) {number k m l : ℕ} (read : LineRead (sheetChecks i
       go (v .0) (v .1) c x f
     where
       go : Checked (sizeChecks k m) 0 → Checked (lengthChecks l) 0 → Checked (sheetChecks input) 0 → Line input k m l → OrNoughts (Begins k m) held → Output input (take count after ++ text)
-      go s len c x (inl g) = printed k m l (g .ids) text c x (g .first) (pieces-are-lines k m l s len ps (record { sized = s; choice = g .first .choice; held-is = g .held-is })) (ap (λ t. t ++ text) (piece-text b p))
+      go s len c x (inl g) =
+          let first-held : Holding k m held (g .ids) = record { sized = s; choice = g .first .choice; held-is = g .held-is } in
+          printed k m l (g .ids) text c x (g .first) (pieces-are-lines k m l s len ps first-held) (ap (λ t. t ++ text) (piece-text b p))
       go s len c x (inr g) = absurd (g .0 _ (begins-run k m s))
 
 -- every choice from ids on has its line
-pub every-choice-has-its-line : {k m l : ℕ} {ids text : List ℕ} → Lines k m l ids text → (others : List ℕ) → Choice k (k + m) others → (others ≡ ids) ⊎ Before ids others → (front : List ℕ) × (line : List ℕ) × (back : List ℕ) × Row k m l others line × (text ≡ front ++ line ++ back)
+pub every-choice-has-its-line : {k m l : ℕ} {ids text : List ℕ} → Lines k m l ids text → (others : List ℕ) → Choice k (k + m) others → (others ≡ ids) ⊎ Before ids others
+    → (front : List ℕ) × (line : List ℕ) × (back : List ℕ) × Row k m l others line × (text ≡ front ++ line ++ back)
 every-choice-has-its-line {k} {m} {l} {text = text} (last r z) others c (inl e) = ([], text, [], subst (λ u. Row k m l u text) (sym e) r, sym (append-nil text))
 every-choice-has-its-line (last r z) others c (inr b) = absurd (z others c b)
 every-choice-has-its-line {k} {m} {l} (more line next rest r n ls e) others c (inl q) = ([], line, rest, subst (λ u. Row k m l u line) (sym q) r, e)
@@ -181,5 +151,6 @@ one-output input text text′ (printed k m l ids ls c x f z e) (printed k′ m�
     let q = one-line x′ x in
     let first : First k (k + m) ids′ = subst (λ a. First a (a + m) ids′) (q .0) (subst (λ b. First k′ (k′ + b) ids′) (q .1) f′) in
     let i : ids′ ≡ ids = sym (one-least ids ids′ (f .least ids′ (first .choice)) (first .least ids (f .choice))) in
-    let lines : Lines k m l ids ls′ = subst (λ u. Lines k m l u ls′) i (subst (λ a. Lines a m l ids′ ls′) (q .0) (subst (λ b. Lines k′ b l ids′ ls′) (q .1) (subst (λ d. Lines k′ m′ d ids′ ls′) (q .2) z′))) in
+    let shaped : Lines k m l ids′ ls′ = subst (λ a. Lines a m l ids′ ls′) (q .0) (subst (λ b. Lines k′ b l ids′ ls′) (q .1) (subst (λ d. Lines k′ m′ d ids′ ls′) (q .2) z′)) in
+    let lines : Lines k m l ids ls′ = subst (λ u. Lines k m l u ls′) i shaped in
     e ∙ ap (λ t. header ++ t) (lines-once z ls′ lines) ∙ sym e′

@@ -1,27 +1,39 @@
--- Text at the front of a buffer.
-use mathlib.Core.Path.{_≡_}
-use mathlib.Core.List.{List, _++_}
-use Prim.Native.Nat.{ℕ, _≤_, _<_}
-use lib.ListN.{length, drop}
+-- The text that the class sheet prints, as bytes, and the room that it is printed in.
+use mathlib.Core.List.{List, [], _∷_, _++_}
+use Prim.Native.Nat.{ℕ}
+use Rattle.text.specs.Text.{space, comma, lineFeed}
+use Rattle.text.specs.Numerals.{numeral}
 
--- after holds text at its front, and behind it what before held there
-abbrev pub Front : List ℕ → List ℕ → List ℕ → Type 0
-Front before text after = after ≡ text ++ drop (length text) before
+-- each number after a comma
+unfoldable pub afterCommas : List ℕ → List ℕ
+afterCommas [] = []
+afterCommas (x ∷ xs) = comma ∷ (numeral x ++ afterCommas xs)
 
--- where a text of length at stands at the front of entry, exit has more text behind it
-abbrev pub PutAt : List ℕ → ℕ → List ℕ → List ℕ → Type 0
-PutAt entry at more exit =
-    (before text : List ℕ) → at ≡ length text → Front before text entry → Front before (text ++ more) exit
+-- numbers joined by commas
+unfoldable pub commaed : List ℕ → List ℕ
+commaed [] = []
+commaed (x ∷ xs) = numeral x ++ afterCommas xs
 
--- as many digits as a number of the code has at most
-abbrev pub longest : ℕ
-longest = 20
+-- `ids steps`
+abbrev pub header : List ℕ
+header = 105 ∷ 100 ∷ 115 ∷ space ∷ 115 ∷ 116 ∷ 101 ∷ 112 ∷ 115 ∷ lineFeed ∷ []
+
+-- the line of a choice: its numbers, and the count of steps
+abbrev pub choiceText : List ℕ → ℕ → List ℕ
+choiceText ids count = commaed ids ++ space ∷ (numeral count ++ lineFeed ∷ [])
+
+-- `refused` and a space
+abbrev pub refused : List ℕ
+refused = 114 ∷ 101 ∷ 102 ∷ 117 ∷ 115 ∷ 101 ∷ 100 ∷ space ∷ []
+
+-- the only line where the input is refused
+abbrev pub refusal : ℕ → List ℕ
+refusal number = refused ++ (numeral number ++ lineFeed ∷ [])
+
+-- as many digits as a packet number has at most
+abbrev pub idDigits : ℕ
+idDigits = 2
 
 -- as many bytes as each piece that is printed has room in
 abbrev pub room : ℕ
 room = 64
-
--- Print: with less room than that, nothing; else the text at the front, and how long it is.
-pub record Printed (text before : List ℕ) (count : ℕ) (after : List ℕ) : Type 0 where
-  pub short : length before < room → (count ≡ 0) × (after ≡ before)
-  pub done : room ≤ length before → (count ≡ length text) × Front before text after

@@ -1,36 +1,35 @@
--- What the line reader promises.
+-- What the calls that print a piece promise.
 use mathlib.Core.Path.{_≡_}
 use mathlib.Core.Logic.{_⊎_}
-use mathlib.Core.List.{List, [], _∷_, _++_}
-use Prim.Native.Nat.{ℕ, _<_}
-use Rattle.table.specs.Limits.{maxK, maxM, maxLength}
-use Rattle.table.specs.Checks.{Checks, Checked, Outside}
-use Rattle.sheet.specs.Text.{lineText}
+use mathlib.Core.List.{List}
+use Prim.Native.Nat.{ℕ, _≤_, _<_}
+use lib.ListN.{length}
+use Rattle.text.specs.Text.{Front}
+use Rattle.choices.specs.Promise.{Holding}
+use Rattle.sheet.specs.Printing.{choiceText, room}
+use Rattle.sheet.specs.Steps.{WalkOf}
 
--- the input is the one line `k m L`, each number 0 or one to three digits without a leading zero
-pub record Line (input : List ℕ) (k m l : ℕ) : Type 0 where
-  pub k-low : k < 1000
-  pub m-low : m < 1000
-  pub l-low : l < 1000
-  pub text : input ≡ lineText k m l
+-- Print: with less room than a piece may take, nothing; else the text at the front, and how long it is.
+pub record Printed (text before : List ℕ) (count : ℕ) (after : List ℕ) : Type 0 where
+  pub short : length before < room → (count ≡ 0) × (after ≡ before)
+  pub done : room ≤ length before → (count ≡ length text) × Front before text after
 
--- 18: the input is not exactly one such line
-abbrev pub lineChecks : List ℕ → Checks
-lineChecks input = (18, (k m l : ℕ) → Line input k m l → ⊥) ∷ []
+-- the line of the choice that is held
+pub record RowOf (k m l : ℕ) (held text : List ℕ) : Type 0 where
+  pub ids : List ℕ
+  pub was : Holding k m held ids
+  pub count : ℕ
+  pub counted : WalkOf k m l ids 0 count
+  pub text-is : text ≡ choiceText ids count
 
--- 1: k or m of the line is outside 1 to 8; 2: its length is outside 1 to 56
-abbrev pub valueChecks : List ℕ → Checks
-valueChecks input =
-    (1, (k : ℕ) × (m : ℕ) × (l : ℕ) × Line input k m l × (Outside maxK k ⊎ Outside maxM m))
-    ∷ (2, (k : ℕ) × (m : ℕ) × (l : ℕ) × Line input k m l × Outside maxLength l)
-    ∷ []
+-- no line: no choice is held, or the walk refuses it
+abbrev pub NoRow : ℕ → ℕ → ℕ → List ℕ → Type 0
+NoRow k m l held =
+    ((ids : List ℕ) → Holding k m held ids → ⊥)
+    ⊎ ((ids : List ℕ) × (number : ℕ) × (count : ℕ) × Holding k m held ids × WalkOf k m l ids number count × (number ≡ 0 → ⊥))
 
--- 18 1 2
-abbrev pub sheetChecks : List ℕ → Checks
-sheetChecks input = lineChecks input ++ valueChecks input
-
--- Read: the number of its checks; refused, noughts; else the three numbers of the line.
-pub record LineRead (checks : Checks) (input : List ℕ) (number k m l : ℕ) : Type 0 where
-  pub numbered : Checked checks number
-  pub refused : (number ≡ 0 → ⊥) → (k ≡ 0) × (m ≡ 0) × (l ≡ 0)
-  pub done : number ≡ 0 → Line input k m l
+-- Row: the line of the choice; where there is none, nothing.
+abbrev pub RowPrinted : ℕ → ℕ → ℕ → List ℕ → List ℕ → ℕ → List ℕ → Type 0
+RowPrinted k m l held before count after =
+    ((text : List ℕ) × RowOf k m l held text × Printed text before count after)
+    ⊎ (NoRow k m l held × (count ≡ 0) × (after ≡ before))

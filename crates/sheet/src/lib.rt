@@ -1,6 +1,4 @@
-// The class sheet: the line that it reads, the choices of packets, and the text that it prints.
-pub mod choices;
+// The class sheet: the count of steps of each choice, and the text that is printed.
 pub mod pieces;
-pub mod reading;
 mod steps;
 mod writing;

@@ -1,11 +1,9 @@
 // The pieces that the class sheet prints, each at the front of a lent buffer.
-use crate::choices;
-use crate::choices::Choice;
 use crate::steps;
 use crate::writing;
-ghost use Rattle.sheet.specs.Text.{header, refusal};
-ghost use Rattle.sheet.specs.Printing.{Printed};
-ghost use Rattle.sheet.specs.Steps.{RowPrinted};
+use choices::Choice;
+ghost use Rattle.sheet.specs.Printing.{header, refusal};
+ghost use Rattle.sheet.specs.Promise.{Printed, RowPrinted};
 
 // As many bytes as each piece has room in.
 pub const ROOM: usize = 64;
@@ -17,7 +15,7 @@ pub fn header(out: &mut [u8]) -> usize
     if out.len() < ROOM {
         return 0;
     }
-    writing::put(out, 0, b"ids steps\n")
+    text::put(out, 0, b"ids steps\n")
 }
 
 // The only line where the input is refused.
@@ -27,9 +25,9 @@ pub fn refusal(number: u64, out: &mut [u8]) -> usize
     if out.len() < ROOM {
         return 0;
     }
-    let word = writing::put(out, 0, b"refused ");
-    let end = writing::put_numeral(out, word, number);
-    writing::put(out, end, b"\n")
+    let word = text::put(out, 0, b"refused ");
+    let end = text::put_numeral(out, word, number);
+    text::put_byte(out, end, b'\n')
 }
 
 // The line of the choice c: its numbers, and the count of steps with the house table. Where c is no choice, nothing.
@@ -48,7 +46,7 @@ pub fn row(k: u64, m: u64, l: u64, c: Choice, out: &mut [u8]) -> usize
         return 0;
     }
     let last = writing::put_ids(out, ids, k as usize);
-    let count = writing::put(out, last, b" ");
-    let end = writing::put_numeral(out, count, steps.count);
-    writing::put(out, end, b"\n")
+    let count = text::put_byte(out, last, b' ');
+    let end = text::put_numeral(out, count, steps.count);
+    text::put_byte(out, end, b'\n')
 }

@@ -2,18 +2,18 @@
 use table::Table;
 use walk::WalkAnswer;
 ghost use mathlib.Core.Path.{_≡_};
-ghost use Prim.Native.Nat.{_*_, _≤_};
+ghost use Prim.Native.Nat.{_+_, _*_, _≤_};
 ghost use lib.ListN.{length, take};
-ghost use Rattle.table.specs.Limits.{maxK};
+ghost use Rattle.table.specs.Limits.{maxK, maxM};
 ghost use Rattle.table.specs.Checks.{Checked, sizeChecks};
-ghost use Rattle.table.specs.Promise.{HouseTable};
+ghost use Rattle.family.specs.Promise.{HouseTable};
 ghost use Rattle.walk.specs.Promise.{Walked};
-ghost use Rattle.sheet.specs.Choices.{Rising};
+ghost use Rattle.choices.specs.Choices.{Rising};
 ghost use Rattle.sheet.specs.Steps.{Marked, WalkOf};
 
 // The marks of the first k numbers.
 fn marks_of(ids: [u64; Table::SOURCES], k: usize) -> u64
-    requires { ⌜ (k ≤ maxK) × Rising 0 16 (take k ids) ⌝ }
+    requires { ⌜ (k ≤ maxK) × Rising 0 (maxK + maxM) (take k ids) ⌝ }
     ensures { λ r. ⌜ Marked (take k ids) r ⌝ }
 {
     let mut marks = 0;
@@ -30,13 +30,13 @@ fn with_house(k: u64, m: u64, l: u64, marks: u64, shifts: &mut [u8]) -> WalkAnsw
     requires { ⌜ Checked (sizeChecks k m) 0 × (length (now shifts) ≡ m * k) ⌝ }
     ensures { λ r. ⌜ HouseTable k m (now (shifts .exit)) × Walked k m l (now (shifts .exit)) marks (r .number) (r .count) (r .whole) (r .progress) ⌝ }
 {
-    table::house::family_table(k, m, shifts);
+    family::family_table(k, m, shifts);
     walk::walk(k, m, l, shifts, marks)
 }
 
 // The walk with the house table, the packets of the choice at hand.
 pub fn walked(k: u64, m: u64, l: u64, ids: [u64; Table::SOURCES]) -> WalkAnswer
-    requires { ⌜ Checked (sizeChecks k m) 0 × Rising 0 16 (take k ids) ⌝ }
+    requires { ⌜ Checked (sizeChecks k m) 0 × Rising 0 (maxK + maxM) (take k ids) ⌝ }
     ensures { λ r. ⌜ WalkOf k m l (take k ids) (r .number) (r .count) ⌝ }
 {
     let marks = marks_of(ids, k as usize);

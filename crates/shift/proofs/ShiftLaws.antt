@@ -14,7 +14,9 @@ use lib.Pow.{pow-pos, pow-add, shl-lt, shl-exact, shr-le}
 use lib.ListN.{length, getD, set, take, drop, replicate, length-set, length-take, length-replicate}
 use lib.Seq.{getD-set-other, take-length}
 use Rattle.bits.specs.Bits.{bit, bitAt, num, Bytes, up}
-use Rattle.bits.proofs.BitLaws.{lt-or-ge, and-255, bit-beside, bit-zero-shl, bitAt-lt, bitAt-past, bitAt-take, bitAt-drop, bitAt-xor, bitAt-put, bytes-take, getD-zeros, zero-bits, num-take-suc, num-take-lt}
+use Rattle.bits.proofs.BitLaws.{lt-or-ge, and-255, bit-beside, bit-zero-shl, bytes-take, getD-zeros, zero-bits, num-take-suc, num-take-lt}
+use Rattle.bits.proofs.BitLaws.{bitAt-lt, bitAt-past, bitAt-take, bitAt-drop, bitAt-xor, bitAt-put}
+use Rattle.table.specs.Limits.{longest}
 use Rattle.bits.proofs.UpLaws.{up-same, up-from, up-high, up-up, up-lt, up-none, bit-up}
 
 -- one byte of a list more, shifted up by e: the byte shifted within its place i + e / 8
@@ -58,15 +60,15 @@ highs xs e (suc j) p = highs xs e j p + bit (getD xs j 0 / 2 ^ (8 - e % 8) * 2 ^
 
 -- t has what stays of i bytes and what crosses of j
 abbrev pub Parts : List ℕ → ℕ → ℕ → ℕ → List ℕ → Type 0
-Parts xs e i j t = (length t ≡ 64) × ((p : ℕ) → bitAt t p ≡ (lows xs e i p + highs xs e j p) % 2)
+Parts xs e i j t = (length t ≡ longest) × ((p : ℕ) → bitAt t p ≡ (lows xs e i p + highs xs e j p) % 2)
 
 -- t is 0 from byte n on
 abbrev pub ZeroFrom : ℕ → List ℕ → Type 0
 ZeroFrom n t = (k : ℕ) → n ≤ k → getD t k 0 ≡ 0
 
-pub parts-none : (xs : List ℕ) (e : ℕ) → Parts xs e 0 0 (replicate 64 0) × ZeroFrom (0 + e / 8) (replicate 64 0)
+pub parts-none : (xs : List ℕ) (e : ℕ) → Parts xs e 0 0 (replicate longest 0) × ZeroFrom (0 + e / 8) (replicate longest 0)
 unfolding lows highs
-parts-none xs e = ((length-replicate {A = ℕ} 64 0, λ p. zero-bits 64 p), λ k _. getD-zeros 64 k)
+parts-none xs e = ((length-replicate {A = ℕ} longest 0, λ p. zero-bits longest p), λ k _. getD-zeros longest k)
 
 -- what the code stores of a byte, and what it adds to the next one
 low-part : (a s w : ℕ) → a < 2 ^ 8 → s < 8 → w ≡ a → bitAnd (w * 2 ^ s % 2 ^ 16) 255 ≡ a * 2 ^ s % 256
@@ -85,7 +87,7 @@ par-high : (d l h v : ℕ) → d ≡ (l + h) % 2 → (d + v) % 2 ≡ (l + (h + v
 par-high d l h v p = rw p (simp mod-add-mod (ap (λ (x : ℕ). x % 2) (omega arith)))
 
 -- one byte more
-module _ (xs : List ℕ) (h : Bytes xs) (e : ℕ) (t : List ℕ) (room : 8 * length xs + e ≤ 512) where
+module _ (xs : List ℕ) (h : Bytes xs) (e : ℕ) (t : List ℕ) (room : 8 * length xs + e ≤ 8 * longest) where
   pub parts-low : (i w : ℕ) → i < length xs → w ≡ getD xs i 0 → Parts xs e i 0 t → ZeroFrom (i + e / 8) t
       → Parts xs e (i + 1) 0 (set t (i + e / 8) (bitAnd (w * 2 ^ (e % 8) % 2 ^ 16) 255)) × ZeroFrom (i + 1 + e / 8) (set t (i + e / 8) (bitAnd (w * 2 ^ (e % 8) % 2 ^ 16) 255))
   unfolding lows
@@ -180,10 +182,10 @@ pub copy-up : (t xs : List ℕ) (s e n : ℕ) → 8 * length xs + e ≤ 8 * n �
 copy-up t xs s e n room h p = up-same (8 * s) (bitAt (take n t)) (up e (bitAt xs)) p (λ q _. copy-take t xs e n room h q) ∙ up-up (8 * s) e (bitAt xs) p
 
 -- added into noughts, from their first bit on
-pub into-noughts : (t xs : List ℕ) (e : ℕ) → ((p : ℕ) → bitAt t p ≡ (bitAt (replicate 64 0) p + up (8 * 0 + e) (bitAt xs) p) % 2) → (p : ℕ) → bitAt t p ≡ up e (bitAt xs) p
+pub into-noughts : (t xs : List ℕ) (e : ℕ) → ((p : ℕ) → bitAt t p ≡ (bitAt (replicate longest 0) p + up (8 * 0 + e) (bitAt xs) p) % 2) → (p : ℕ) → bitAt t p ≡ up e (bitAt xs) p
 into-noughts t xs e h p =
     let first : 8 * 0 + e ≡ e = omega arith in
-    h p ∙ omega (arith, zero-bits 64 p, ap (λ x. up x (bitAt xs) p) first, up-lt e (bitAt xs) p (bitAt-lt xs))
+    h p ∙ omega (arith, zero-bits longest p, ap (λ x. up x (bitAt xs) p) first, up-lt e (bitAt xs) p (bitAt-lt xs))
 
 -- n bytes from bit e on: they were shifted up to the next byte, and start there
 pub copy-down : (t xs : List ℕ) (e n : ℕ) → e + 8 * n ≤ 8 * length xs → ((p : ℕ) → bitAt t p ≡ up (8 - e % 8) (bitAt (take ((e + 7) / 8 + n - e / 8) (drop (e / 8) xs))) p)

@@ -6,10 +6,11 @@ ghost use Prim.Native.Nat.{ℕ, _+_, _*_, _%_, _≤_};
 ghost use lib.Dec.{ltb};
 ghost use lib.ListN.{length, take};
 ghost use Rattle.bits.specs.Bits.{bitAt, up};
+ghost use Rattle.table.specs.Limits.{longest};
 
 // Adds src, shifted up by e bits, into the parity that starts at byte `start` of dst.
 pub fn shift_add(dst: &mut [u8], start: usize, src: &[u8], e: usize)
-    requires { ⌜ 8 * length (now src) + e ≤ 512 ⌝ }
+    requires { ⌜ 8 * length (now src) + e ≤ 8 * longest ⌝ }
     requires { ⌜ 8 * start + (8 * length (now src) + e) ≤ 8 * length (now dst) ⌝ }
     ensures { λ _. ⌜ ((p : ℕ) → bitAt (now (dst .exit)) p ≡ (bitAt (now (dst .entry)) p + up (8 * start + e) (bitAt (now (src .entry))) p) % 2) ⌝ }
 {
@@ -19,7 +20,7 @@ pub fn shift_add(dst: &mut [u8], start: usize, src: &[u8], e: usize)
 
 // Adds n bytes, those from bit e of src on, into dst from byte `start` on: shifted up to the next byte, which is then the first.
 pub fn add_from(dst: &mut [u8], start: usize, src: &[u8], e: usize, n: usize)
-    requires { ⌜ (8 * n + 16 ≤ 512) × (e + 8 * n ≤ 512) ⌝ }
+    requires { ⌜ (8 * n + 16 ≤ 8 * longest) × (e + 8 * n ≤ 8 * longest) ⌝ }
     requires { ⌜ e + 8 * n ≤ 8 * length (now src) ⌝ }
     requires { ⌜ start + n ≤ length (now dst) ⌝ }
     ensures { λ _. ⌜ ((p : ℕ) → bitAt (now (dst .exit)) p ≡ (bitAt (now (dst .entry)) p + up (8 * start) (λ q. cond (ltb q (8 * n)) (bitAt (now (src .entry)) (e + q)) 0) p) % 2) ⌝ }
@@ -32,7 +33,7 @@ pub fn add_from(dst: &mut [u8], start: usize, src: &[u8], e: usize, n: usize)
 // src, shifted up by e bits: what stays in a byte's place, and then what crosses into the next one.
 // With no carry from turn to turn both loops take many bytes at a time.
 fn shifted(src: &[u8], e: usize) -> [u8; Table::LONGEST]
-    requires { ⌜ 8 * length (now src) + e ≤ 512 ⌝ }
+    requires { ⌜ 8 * length (now src) + e ≤ 8 * longest ⌝ }
     ensures { λ r. ⌜ ((p : ℕ) → bitAt r p ≡ up e (bitAt (now (src .entry))) p) ⌝ }
 {
     let mut copy = [0u8; Table::LONGEST];

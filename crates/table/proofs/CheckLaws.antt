@@ -7,10 +7,12 @@ use native.Mathlib.Omega.{arith}
 use native.Mathlib.Decide.{ℕ-discrete, decLt, decLe}
 use lib.ListN.{length}
 use Rattle.bits.specs.Sums.{at, count}
-use mathlib.Core.Bool.{true}
+use mathlib.Core.Bool.{Bool, true, _&&_, and-eq-true-iff}
+use lib.Dec.{ltb}
+use borrow.Author.Tests.{ltb-true}
 use Rattle.table.specs.Limits.{maxK, maxM, maxLength, maxShift}
 use Rattle.table.specs.Desk.{mark}
-use Rattle.table.specs.Checks.{Checks, Checked, Outside, asked, marksChecks, sizeChecks, lengthChecks, tableChecks, numberChecks}
+use Rattle.table.specs.Checks.{Checks, Checked, Flag, Outside, asked, marksChecks, sizeChecks, lengthChecks, tableChecks, numberChecks, askedChecks, inputChecks, outputChecks}
 
 -- two numbers that a list of checks gives are the same
 pub checked-once : (cs : Checks) (n n′ : ℕ) → Checked cs n → Checked cs n′ → n ≡ n′
@@ -24,6 +26,17 @@ checked-once (c ∷ cs) n n′ (inr x) (inr y) = checked-once cs n n′ (x .1) (
 abbrev pub Numbered : Checks → Type 0
 Numbered [] = Unit
 Numbered (c ∷ cs) = (0 < c .0) × Numbered cs
+
+-- which is computed
+abbrev numbersB : Checks → Bool
+numbersB [] = true
+numbersB (c ∷ cs) = ltb 0 (c .0) && numbersB cs
+
+pub numbered-by : (cs : Checks) → numbersB cs ≡ true → Numbered cs
+numbered-by [] e = tt
+numbered-by (c ∷ cs) e =
+    let w = and-eq-true-iff (ltb 0 (c .0)) (numbersB cs) .0 e in
+    (ltb-true 0 (c .0) (w .0), numbered-by cs (w .1))
 
 -- the first list refuses
 pub stops : (cs ds : Checks) (n : ℕ) → Checked cs n → (n ≡ 0 → ⊥) → Checked (cs ++ ds) n
@@ -46,6 +59,60 @@ pub passed : (cs ds : Checks) → Numbered cs → Checked (cs ++ ds) 0 → Check
 passed [] ds p x = (refl, x)
 passed (c ∷ cs) ds p (inl x) = absurd (omega arith)
 passed (c ∷ cs) ds p (inr x) = let r = passed cs ds (p .1) (x .1) in (inr (x .0, r .0), r .1)
+
+-- no check of the list refuses
+abbrev pub Passes : Checks → Type 0
+Passes [] = Unit
+Passes (c ∷ cs) = (c .1 → ⊥) × Passes cs
+
+pub zero-passes : (cs : Checks) → Numbered cs → Checked cs 0 → Passes cs
+zero-passes [] p x = tt
+zero-passes (c ∷ cs) p (inl x) = absurd (omega arith)
+zero-passes (c ∷ cs) p (inr x) = (x .0, zero-passes cs (p .1) (x .1))
+
+pub passes-zero : (cs : Checks) → Passes cs → Checked cs 0
+passes-zero [] x = refl
+passes-zero (c ∷ cs) x = inr (x .0, passes-zero cs (x .1))
+
+-- a list that gave 0, and the list after it decides
+pub goes-on : (cs ds : Checks) (n m : ℕ) → Numbered cs → Checked cs n → n ≡ 0 → Checked ds m → Checked (cs ++ ds) m
+goes-on cs ds n m p x z y = goes cs ds m p (zero-checked cs n z x) y
+
+pub not-unequal : {a b : ℕ} → ((a ≡ b → ⊥) → ⊥) → a ≡ b
+not-unequal {a} {b} h = elim (ℕ-discrete a b) [ yes e ↦ e | no n ↦ absurd (h n) ]
+
+-- where the first list does not refuse, the second decides
+pub rest-decides : (cs ds : Checks) (n : ℕ) → Numbered cs → Checked cs 0 → Checked (cs ++ ds) n → Checked ds n
+rest-decides [] ds n p c x = x
+rest-decides (d ∷ cs) ds n p (inl c) x = absurd (omega (arith, p .0, c .1))
+rest-decides (d ∷ cs) ds n p (inr c) (inl x) = absurd (c .0 (x .0))
+rest-decides (d ∷ cs) ds n p (inr c) (inr x) = rest-decides cs ds n (p .1) (c .1) (x .1)
+
+-- every number of the list is below x
+abbrev pub Below : ℕ → Checks → Type 0
+Below x [] = Unit
+Below x (c ∷ cs) = (c .0 < x) × Below x cs
+
+abbrev belowB : ℕ → Checks → Bool
+belowB x [] = true
+belowB x (c ∷ cs) = ltb (c .0) x && belowB x cs
+
+pub below-by : (x : ℕ) (cs : Checks) → belowB x cs ≡ true → Below x cs
+below-by x [] e = tt
+below-by x (c ∷ cs) e =
+    let w = and-eq-true-iff (ltb (c .0) x) (belowB x cs) .0 e in
+    (ltb-true (c .0) x (w .0), below-by x cs (w .1))
+
+pub checked-below : (x : ℕ) (cs : Checks) (n : ℕ) → 0 < x → Below x cs → Checked cs n → n < x
+checked-below x [] n l b c = omega arith
+checked-below x (d ∷ cs) n l b (inl c) = omega (arith, b .0, c .1)
+checked-below x (d ∷ cs) n l b (inr c) = checked-below x cs n l (b .1) (c .1)
+
+-- a number from x on comes from a later list, and the first does not refuse
+pub from-later : (x : ℕ) (cs ds : Checks) (n : ℕ) → x ≤ n → Below x cs → Checked (cs ++ ds) n → Checked cs 0 × Checked ds n
+from-later x [] ds n l b c = (refl, c)
+from-later x (d ∷ cs) ds n l b (inl c) = absurd (omega (arith, b .0, c .1))
+from-later x (d ∷ cs) ds n l b (inr c) = let r = from-later x cs ds n l (b .1) (c .1) in (inr (c .0, r .0), r .1)
 
 pub neither : {P Q : Type 0} → (P → ⊥) → (Q → ⊥) → P ⊎ Q → ⊥
 neither f g (inl x) = f x
@@ -106,3 +173,53 @@ counted k m marks (inr x) = elim (ℕ-discrete (count (k + m) (mark marks)) (ask
 pub none-above : (k m marks : ℕ) → Checked (marksChecks k m marks) 0 → (i : ℕ) → k + m ≤ i → mark marks i ≡ true → ⊥
 none-above k m marks (inl x) i l e = omega arith
 none-above k m marks (inr x) i l e = x .0 (i, l, e)
+
+-- 6 for the number asked for, and 6 and 7 for the marks, are one check 6, and 7
+module _ (k m marks among i : ℕ) where
+  pub asked-stops : (n : ℕ) → Checked (numberChecks among i) n → (n ≡ 0 → ⊥) → Checked (askedChecks k m marks among i) n
+  asked-stops n (inl x) h = inl (inr (x .0), x .1)
+  asked-stops n (inr x) h = absurd (h (x .1))
+
+  pub asked-goes : (n : ℕ) → Checked (numberChecks among i) 0 → Checked (marksChecks k m marks) n → Checked (askedChecks k m marks among i) n
+  asked-goes n (inl x) c = absurd (omega arith)
+  asked-goes n (inr x) (inl c) = inl (inl (c .0), c .1)
+  asked-goes n (inr x) (inr c) = inr (neither (c .0) (x .0), c .1)
+
+  -- which say of the marks and of the number what each said alone
+  pub asked-parts : Checked (askedChecks k m marks among i) 0 → Checked (marksChecks k m marks) 0 × Checked (numberChecks among i) 0
+  asked-parts (inl c) = absurd (omega arith)
+  asked-parts (inr c) = (inr ((λ a. c .0 (inl a)), c .1), inr ((λ o. c .0 (inr o)), refl))
+
+  pub asked-one : Checked (askedChecks k m marks among i) 0 → (1 ≤ i) × (i ≤ among)
+  asked-one c = one-of among i (asked-parts c .1)
+
+-- the lengths that were asked for are those of the checks
+pub lengths-are : (a a′ b b′ : ℕ) (xs ys : List ℕ) (n : ℕ) → a ≡ a′ → b ≡ b′ → Checked (inputChecks a xs ++ outputChecks b ys) n → Checked (inputChecks a′ xs ++ outputChecks b′ ys) n
+lengths-are a a′ b b′ xs ys n e f c = subst (λ x. Checked (inputChecks x xs ++ outputChecks b′ ys) n) e (subst (λ y. Checked (inputChecks a xs ++ outputChecks y ys) n) f c)
+
+-- both buffers have the exact length
+pub lengths-exact : (a b : ℕ) (xs ys : List ℕ) → Checked (inputChecks a xs ++ outputChecks b ys) 0 → (length xs ≡ a) × (length ys ≡ b)
+lengths-exact a b xs ys c =
+    let p = passed (inputChecks a xs) (outputChecks b ys) (numbered-by (inputChecks a xs) refl) c in
+    (exact 4 a xs (omega arith) (p .0), exact 5 b ys (omega arith) (p .1))
+
+-- a flag is 1 exactly when what it tells holds
+pub flag-up : {P : Type 0} {n : ℕ} → Flag P n → P → n ≡ 1
+flag-up (inl x) p = x .1
+flag-up (inr x) p = absurd (x .0 p)
+
+pub flag-holds : {P : Type 0} → Flag P 1 → P
+flag-holds (inl x) = x .0
+flag-holds (inr x) = absurd (omega arith)
+
+pub flag-down : {P : Type 0} {n : ℕ} → Flag P n → n ≡ 0 → P → ⊥
+flag-down (inl x) z p = omega arith
+flag-down (inr x) z p = x .0 p
+
+pub flag-low : {P : Type 0} {n : ℕ} → Flag P n → (P → ⊥) → n ≡ 0
+flag-low (inl x) h = absurd (h (x .0))
+flag-low (inr x) h = x .1
+
+pub flag-once : {P : Type 0} {n n′ : ℕ} → Flag P n → Flag P n′ → n ≡ n′
+flag-once (inl x) y = x .1 ∙ sym (flag-up y (x .0))
+flag-once (inr x) y = x .1 ∙ sym (flag-low y (x .0))

@@ -1,8 +1,9 @@
 pub mod CheckLaws
+pub mod AnswerLaws
 pub mod MarkLaws
 pub mod TableLaws
 pub mod Tabulated
-pub mod OpenLaws
+pub mod ShapeLaws
 pub mod PacketLaws
-pub mod GrowLaws
+pub mod Bounds
 pub mod Taken

@@ -1,19 +1,18 @@
 -- Laws of the bits, bytes and places of packets. Assumes nothing.
-use mathlib.Core.Path.{_≡_, refl, sym, ap, ap₂, _∙_}
+use mathlib.Core.Path.{_≡_, refl, sym, ap, _∙_}
 use mathlib.Core.Bool.{Bool, true, false, cond}
-use mathlib.Core.List.{List}
-use Prim.Native.Nat.{ℕ, zero, suc, _+_, _-_, _*_, _/_, _%_, _^_, _≤_, _<_}
+use Prim.Native.Nat.{ℕ, zero, suc, _+_, _-_, _*_, _≤_, _<_}
 use native.Mathlib.Omega.{arith}
 use native.Mathlib.Numerals.{add-one}
-use native.Mathlib.Nat.{add-zero, add-sub-cancel-left}
-use native.Mathlib.Decide.{ℕ-discrete, decLt, decLe}
-use lib.Pow.{shr-shr}
-use lib.Dec.{leb, ltb}
+use native.Mathlib.Nat.{add-zero, add-sub-cancel-left, mul-comm}
+use native.Mathlib.Decide.{ℕ-discrete, decLe}
+use lib.Dec.{leb}
 use borrow.Author.Tests.{le-leb, lt-leb, lt-ltb, le-ltb}
-use Rattle.bits.specs.Sums.{pick, sum}
-use Rattle.table.specs.Table.{LowestMark}
-use Rattle.table.proofs.MarkLaws.{no-mark-above}
-use Rattle.table.specs.Desk.{Desk, mark, most, reach, packetBits, packetBytes, placeOf, bytesFor}
+use Rattle.bits.specs.Sums.{pick, sum, count}
+use Rattle.bits.proofs.SumLaws.{sum-same, sum-grows, sum-each}
+use Rattle.table.specs.Table.{NextMark}
+use Rattle.table.specs.Limits.{maxLength, maxBits, maxBytes}
+use Rattle.table.specs.Desk.{Desk, mark, most, sourceBits, sourceBytes, reach, packetBits, packetBytes, placeOf, bytesFor}
 
 -- one value more
 pub most-more : (n : ℕ) (f : ℕ → ℕ) → pick (leb (f n) (most n f)) (most n f) (f n) ≡ most (n + 1) f
@@ -47,6 +46,22 @@ most-below (suc n) f z h = larger-below (most n f) (f n) z (most-below n f z (λ
 pub most-none : (f : ℕ → ℕ) → 0 ≡ most 0 f
 unfolding most
 most-none f = refl
+
+-- a source of length l fills its bytes; what of that holds for the bounds
+pub source-full : (l : ℕ) → sourceBits l ≡ 8 * sourceBytes l
+source-full l = refl
+
+pub source-fits : (l : ℕ) → sourceBits l ≤ 8 * sourceBytes l
+source-fits l = omega arith
+
+pub source-bits-high : (l : ℕ) → l ≤ maxLength → sourceBits l ≤ maxBits
+source-bits-high l h = omega arith
+
+pub source-bytes-high : (l : ℕ) → l ≤ maxLength → sourceBytes l ≤ maxBytes
+source-bytes-high l h = omega arith
+
+pub source-bytes-low : (l : ℕ) → 1 ≤ l → 1 ≤ sourceBytes l
+source-bytes-low l h = omega arith
 
 module _ (D : Desk) where
   open Desk D using (k, m, bits, bytes, shift)
@@ -96,46 +111,31 @@ module _ (D : Desk) where
   place-skip on i (suc n) h =
       place-skip on i n (λ j l. h j (omega arith)) ∙ place-off on (i + n) (h n (omega arith)) ∙ ap (placeOf D on) (omega arith)
 
+  -- from one packet that is present to the next no packet stands
+  pub place-next : (marks i n r : ℕ) → NextMark true marks i n r → placeOf D (mark marks) i ≡ placeOf D (mark marks) r
+  place-next marks i n r N =
+      let e : i + (r - i) ≡ r = omega (arith, N .from) in
+      place-skip (mark marks) i (r - i) (λ j l. N .passed (i + j) (omega arith) (omega arith)) ∙ ap (placeOf D (mark marks)) e
+
+  -- packets further on stand no lower, and a packet that is on ends within those that are on
+  pub place-grows : (on : ℕ → Bool) (i n : ℕ) → i ≤ n → placeOf D on i ≤ placeOf D on n
+  unfolding placeOf
+  place-grows on i n h = sum-grows _ i n h
+
+  pub place-ends : (on : ℕ → Bool) (i n : ℕ) → i < n → on i ≡ true → placeOf D on i + packetBytes D i ≤ placeOf D on n
+  place-ends on i n h e = omega (arith, place-on on i e, place-grows on (i + 1) n (omega arith))
+
+  -- before a source stand only sources
+  pub place-among-sources : (on : ℕ → Bool) (i : ℕ) → i ≤ k → count i on * bytes ≡ placeOf D on i
+  unfolding placeOf
+  place-among-sources on i h =
+      mul-comm _ _
+      ∙ sym (sum-each bytes i on)
+      ∙ sum-same i _ _ (λ j l. ap (λ n. cond (on j) n 0) (source-packet-bytes j (omega arith)))
+
   -- before the first parity no parity has room
   pub parities-from : 0 ≡ placeOf D (leb k) (k + 0)
   parities-from = place-none (leb k) ∙ place-skip (leb k) 0 k (λ j l. lt-leb k (0 + j) (omega arith)) ∙ ap (placeOf D (leb k)) (omega arith)
 
   pub parities-more : (a : ℕ) → placeOf D (leb k) (k + a) + packetBytes D (k + a) ≡ placeOf D (leb k) (k + (a + 1))
   parities-more a = place-on (leb k) (k + a) (le-leb k (k + a) (omega arith)) ∙ ap (placeOf D (leb k)) (omega arith)
-
-  -- from one mark to the next: the marks from packet `next` on are `rest`, whose lowest is at `skip`
-  module _ (marks n : ℕ) (none : marks / 2 ^ n ≡ 0) (next rest : ℕ) (are : rest ≡ marks / 2 ^ next) where
-    rest-mark : (i : ℕ) → mark rest i ≡ mark marks (next + i)
-    rest-mark i = rw (are, shr-shr marks next i)
-
-    module _ (skip : ℕ) (low : LowestMark rest skip) where
-      pub next-marked : mark marks (next + skip) ≡ true
-      next-marked = sym (rest-mark skip) ∙ low .set
-
-      pub next-in : next + skip < n
-      next-in = elim (decLt (next + skip) n) [ yes l ↦ l | no l ↦ absurd (no-mark-above n marks none (next + skip) (omega arith) next-marked) ]
-
-      -- no packet is present between them
-      pub next-skips : (j : ℕ) → j < skip → mark marks (next + j) ≡ false
-      next-skips j l = sym (rest-mark j) ∙ low .below j l
-
-      pub next-place : placeOf D (mark marks) next + packetBytes D (next + skip) ≡ placeOf D (mark marks) (next + (skip + 1))
-      next-place =
-          ap (λ x. x + packetBytes D (next + skip)) (place-skip (mark marks) next skip next-skips)
-          ∙ place-on (mark marks) (next + skip) next-marked ∙ ap (placeOf D (mark marks)) (omega arith)
-
-    pub next-rest : (skip : ℕ) → rest / 2 ^ skip / 2 ^ 1 ≡ marks / 2 ^ (next + (skip + 1))
-    next-rest skip = rw (are, shr-shr marks next skip, shr-shr marks (next + skip) 1) (ap (λ x. marks / 2 ^ x) (omega arith))
-
-    -- no mark is left
-    pub last-place : rest ≡ 0 → next ≤ n → placeOf D (mark marks) next ≡ placeOf D (mark marks) n
-    last-place z l =
-        let e : next + (n - next) ≡ n = omega arith in
-        place-skip (mark marks) next (n - next) (λ j _. off j) ∙ ap (placeOf D (mark marks)) e
-      where
-        off : (j : ℕ) → mark marks (next + j) ≡ false
-        off j = go (mark marks (next + j)) refl
-          where
-            go : (v : Bool) → mark marks (next + j) ≡ v → v ≡ false
-            go false e = refl
-            go true e = absurd (no-mark-above next marks (sym are ∙ z) (next + j) (omega arith) e)

@@ -1,8 +1,8 @@
 -- Laws of tables: their entries, laid out eight to a row, and their limits. Assumes nothing.
-use mathlib.Core.Path.{_≡_, refl, sym, ap, _∙_, fun-ext}
+use mathlib.Core.Path.{_≡_, refl, sym, _∙_, fun-ext}
 use mathlib.Core.List.{List, [], _∷_}
-use mathlib.Core.Logic.{_⊎_, inl, inr}
-use mathlib.Core.Bool.{Bool, true, false, cond, and-false}
+use mathlib.Core.Logic.{_⊎_, inl, inr, ⊎-elim}
+use mathlib.Core.Bool.{Bool, true, false, and-false}
 use Prim.Native.Nat.{ℕ, zero, suc, _+_, _*_, _/_, _%_, _≤_, _<_}
 use native.Mathlib.Omega.{arith}
 use native.Mathlib.Nat.{mul-le-mul, mul-le-mul-right, div-lt-iff-lt-mul, mod-lt}
@@ -30,17 +30,27 @@ noughts-at (suc n) (suc i) = noughts-at n i
 pub low-all : (xs : List ℕ) (i : ℕ) → length xs ≤ i → ((j : ℕ) → j < i → at xs j ≤ maxShift) → (j : ℕ) → at xs j ≤ maxShift
 low-all xs i l h j = elim (decLt j i) [ yes q ↦ h j q | no q ↦ omega (arith, at-past xs j (omega arith)) ]
 
-pub small-product : (a b : ℕ) → a ≤ 8 → b ≤ 8 → a * b ≤ 64
-small-product a b p q = mul-le-mul p q
+-- m rows of k columns are cells of the sheet
+pub small-product : (m k : ℕ) → m ≤ maxM → k ≤ maxK → m * k ≤ cells
+small-product m k p q = mul-le-mul p q
 
--- the entries of a table, inside its columns and outside
-pub entry-in : (k : ℕ) (table : List ℕ) (a b : ℕ) → b < k → at table (a * k + b) ≡ entry k table a b
-unfolding entry
-entry-in k table a b h = rw (lt-ltb b k h)
+-- the entries of a table, k to a row or laid out, inside the columns and past them
+module _ (k : ℕ) (xs : List ℕ) (a b : ℕ) where
+  pub entry-in : b < k → at xs (a * k + b) ≡ entry k xs a b
+  unfolding entry
+  entry-in h = rw (lt-ltb b k h)
 
-pub entry-out : (k : ℕ) (table : List ℕ) (a b : ℕ) → k ≤ b → 0 ≡ entry k table a b
-unfolding entry
-entry-out k table a b h = rw (le-ltb b k h)
+  pub entry-out : k ≤ b → 0 ≡ entry k xs a b
+  unfolding entry
+  entry-out h = rw (le-ltb b k h)
+
+  pub laid-in : b < k → at xs (a * maxK + b) ≡ laidOut k xs a b
+  unfolding laidOut
+  laid-in h = rw (lt-ltb b k h)
+
+  pub laid-past : k ≤ b → 0 ≡ laidOut k xs a b
+  unfolding laidOut
+  laid-past h = rw (le-ltb b k h)
 
 -- a cell below row m is one of m·k
 pub cell-in : (k m a b : ℕ) → a < m → b < k → a * k + b < m * k
@@ -53,16 +63,12 @@ entry-below k m table a b e h = elim (decLt b k) [
   | no q ↦ entry-out k table a b (omega arith)
 ]
 
-pub laid-in : (k : ℕ) (shifts : List ℕ) (a b : ℕ) → b < k → at shifts (a * maxK + b) ≡ laidOut k shifts a b
-unfolding laidOut
-laid-in k shifts a b h = rw (lt-ltb b k h)
+-- the shifts are the table's entries, cell by cell
+abbrev pub CellsAre : ℕ → List ℕ → List ℕ → Type 0
+CellsAre k table shifts = (i : ℕ) → i < cells → at shifts i ≡ entry k table (i / maxK) (i % maxK)
 
-pub laid-past : (k : ℕ) (shifts : List ℕ) (a b : ℕ) → k ≤ b → 0 ≡ laidOut k shifts a b
-unfolding laidOut
-laid-past k shifts a b h = rw (le-ltb b k h)
-
--- shifts that are the table's entries cell by cell, laid out
-pub laid-entries : (k m : ℕ) (table shifts : List ℕ) → k ≤ maxK → m ≤ maxM → length table ≡ m * k → length shifts ≡ cells → ((i : ℕ) → i < cells → at shifts i ≡ entry k table (i / maxK) (i % maxK)) → laidOut k shifts ≡ entry k table
+-- and so they are laid out
+pub laid-entries : (k m : ℕ) (table shifts : List ℕ) → k ≤ maxK → m ≤ maxM → length table ≡ m * k → length shifts ≡ cells → CellsAre k table shifts → laidOut k shifts ≡ entry k table
 laid-entries k m table shifts kh mh size all h = fun-ext λ a. fun-ext λ b. elim (decLt b k) [
   | no q ↦ sym (laid-past k shifts a b (omega arith)) ∙ entry-out k table a b (omega arith)
   | yes q ↦ sym (laid-in k shifts a b q) ∙ elim (decLt a maxM) [
@@ -87,34 +93,25 @@ pub room-missing : (k l marks c : ℕ) → c < k → mark marks c ≡ false → 
 unfolding roomOf
 room-missing k l marks c h e = rw (lt-ltb c k h, e)
 
+-- a source has no room, or that for its bits
+room-none : (k l marks c : ℕ) → (k ≤ c) ⊎ (mark marks c ≡ true) → 0 ≡ roomOf k l marks c
+room-none k l marks c (inl h) = room-outside k l marks c h
+room-none k l marks c (inr e) = room-present k l marks c e
+
+none-or-bits : (k l marks c : ℕ) → ((k ≤ c) ⊎ (mark marks c ≡ true)) ⊎ (sourceBits l ≡ roomOf k l marks c)
+none-or-bits k l marks c = elim (decLt c k) [ yes q ↦ go (mark marks c) refl q | no n ↦ inl (inl (omega arith)) ]
+  where
+    go : (v : Bool) → mark marks c ≡ v → c < k → ((k ≤ c) ⊎ (mark marks c ≡ true)) ⊎ (sourceBits l ≡ roomOf k l marks c)
+    go true e q = inl (inr e)
+    go false e q = inr (room-missing k l marks c q e)
+
 -- progress past its room is astray, and within it is not
 pub past-room : (k l marks : ℕ) (g : List ℕ) (c : ℕ) → roomOf k l marks c < at g c → Astray k l marks g c
-past-room k l marks g c h = elim (decLt c k) [
-  | no n ↦ inr ((λ z. omega arith), inl (omega arith))
-  | yes q ↦ go (mark marks c) refl q
-]
-  where
-    go : (v : Bool) → mark marks c ≡ v → c < k → Astray k l marks g c
-    go true e q = inr ((λ z. omega arith), inr e)
-    go false e q = inl (omega (arith, room-missing k l marks c q e))
-
-room-most : (k l marks c : ℕ) → roomOf k l marks c ≤ sourceBits l
-room-most k l marks c = elim (decLt c k) [
-  | no n ↦ omega (arith, room-outside k l marks c (omega arith))
-  | yes q ↦ go (mark marks c) refl q
-]
-  where
-    go : (v : Bool) → mark marks c ≡ v → c < k → roomOf k l marks c ≤ sourceBits l
-    go true e q = omega (arith, room-present k l marks c e)
-    go false e q = omega (arith, room-missing k l marks c q e)
+past-room k l marks g c h = ⊎-elim (λ n. inr ((λ z. omega arith), n)) (λ e. inl (omega arith)) (none-or-bits k l marks c)
 
 pub within-room : (k l marks : ℕ) (g : List ℕ) (c : ℕ) → at g c ≤ roomOf k l marks c → Astray k l marks g c → ⊥
-within-room k l marks g c h (inl x) = omega (arith, room-most k l marks c)
-within-room k l marks g c h (inr x) = go (x .1)
-  where
-    go : (k ≤ c) ⊎ (mark marks c ≡ true) → ⊥
-    go (inl y) = x .0 (omega (arith, room-outside k l marks c y))
-    go (inr y) = x .0 (omega (arith, room-present k l marks c y))
+within-room k l marks g c h (inl x) = ⊎-elim (λ n. omega (arith, room-none k l marks c n)) (λ e. omega arith) (none-or-bits k l marks c)
+within-room k l marks g c h (inr x) = x .0 (omega (arith, room-none k l marks c (x .1)))
 
 -- the entries are not all low: one is above
 pub not-low : (t : List ℕ) → (((i : ℕ) → at t i ≤ maxShift) → ⊥) → (i : ℕ) × (maxShift < at t i)
@@ -129,7 +126,7 @@ not-low (x ∷ xs) h = elim (decLe x maxShift) [
     both f l (suc i) = f i
 
 -- cells that are the entries of a low table are low
-pub laid-low : (k : ℕ) (table shifts : List ℕ) → length shifts ≡ cells → ((i : ℕ) → at table i ≤ maxShift) → ((i : ℕ) → i < cells → at shifts i ≡ entry k table (i / maxK) (i % maxK)) → (i : ℕ) → at shifts i ≤ maxShift
+pub laid-low : (k : ℕ) (table shifts : List ℕ) → length shifts ≡ cells → ((i : ℕ) → at table i ≤ maxShift) → CellsAre k table shifts → (i : ℕ) → at shifts i ≤ maxShift
 laid-low k table shifts all low h i = elim (decLt i cells) [
   | no n ↦ omega (arith, at-past shifts i (omega arith))
   | yes l ↦ elim (decLt (i % maxK) k) [

@@ -1,24 +1,20 @@
--- Tests that compute whether a call's numbers, table and marks are accepted, and whether differences grow: for examples. Assumes nothing.
-use mathlib.Core.Path.{_≡_, refl, sym, _∙_}
-use mathlib.Core.Logic.{inl, inr}
-use mathlib.Core.Bool.{Bool, true, false, _&&_, and-eq-true-iff, true≢false}
+-- Tests that compute whether a call's numbers, table and marks are accepted: for examples. Assumes nothing.
+use mathlib.Core.Path.{_≡_, refl}
+use mathlib.Core.Logic.{inr}
+use mathlib.Core.Bool.{Bool, true, _&&_, and-eq-true-iff}
 use mathlib.Core.List.{List, [], _∷_, _++_}
-use Prim.Native.Nat.{ℕ, zero, suc, _+_, _-_, _*_, _^_, _≤_, _<_}
+use Prim.Native.Nat.{ℕ, zero, suc, _+_, _-_, _*_, _^_, _<_}
 use native.Mathlib.Omega.{arith}
 use native.Mathlib.Nat.{div-eq-of-lt}
 use lib.Dec.{eqb, ltb, leb}
 use lib.ListN.{length}
-use borrow.Author.Tests.{ltb-true, ltb-false, leb-true, eqb-true, lt-ltb}
-use Rattle.bits.specs.Sums.{at, count, allB}
-use Rattle.bits.proofs.SumLaws.{all-at, all-of}
+use borrow.Author.Tests.{ltb-true, leb-true, eqb-true}
+use Rattle.bits.specs.Sums.{at, count}
 use Rattle.table.specs.Limits.{maxK, maxM, maxLength, maxShift}
-use Rattle.table.specs.Desk.{mark, entry, desk, Grows}
-use Rattle.table.specs.Table.{houseShift}
-use Rattle.table.specs.Promise.{HouseTable, Flag}
+use Rattle.table.specs.Desk.{mark}
 use Rattle.table.specs.Checks.{Checked, Outside, sizeChecks, lengthChecks, tableChecks, marksChecks, shapeChecks, markedChecks}
-use Rattle.table.proofs.CheckLaws.{goes, neither, inside}
+use Rattle.table.proofs.CheckLaws.{numbered-by, goes, neither, inside}
 use Rattle.table.proofs.MarkLaws.{no-mark-above}
-use Rattle.table.proofs.GrowLaws.{steps-grow}
 
 -- both sides of a conjunction
 both : (p q : Bool) → (p && q) ≡ true → (p ≡ true) × (q ≡ true)
@@ -73,51 +69,16 @@ unfolding shapeB
 shape-taken k m l table e =
     let w = both (sizeB k m) (insideB maxLength l && tableB k m table) e in
     let v = both (insideB maxLength l) (tableB k m table) (w .1) in
-    goes (sizeChecks k m) (lengthChecks l ++ tableChecks k m table) 0 (omega arith, tt) (size-taken k m (w .0))
-    (goes (lengthChecks l) (tableChecks k m table) 0 (omega arith, tt) (inr (inside-not maxLength l (v .0), refl)) (table-taken k m table (v .1)))
+    goes (sizeChecks k m) (lengthChecks l ++ tableChecks k m table) 0 (numbered-by (sizeChecks k m) refl) (size-taken k m (w .0))
+    (goes (lengthChecks l) (tableChecks k m table) 0 (numbered-by (lengthChecks l) refl) (inr (inside-not maxLength l (v .0), refl)) (table-taken k m table (v .1)))
 
 pub taken-checked : (k m l : ℕ) (table : List ℕ) (marks : ℕ) → takenB k m l table marks ≡ true → Checked (markedChecks k m l table marks) 0
 unfolding takenB
 taken-checked k m l table marks e =
     let w = both (shapeB k m l table) (ltb marks (2 ^ (k + m)) && eqb (count (k + m) (mark marks)) k) e in
     let v = both (ltb marks (2 ^ (k + m))) (eqb (count (k + m) (mark marks)) k) (w .1) in
-    goes (shapeChecks k m l table) (marksChecks k m marks) 0 (omega arith, (omega arith, (omega arith, tt))) (shape-taken k m l table (w .0))
+    goes (shapeChecks k m l table) (marksChecks k m marks) 0 (numbered-by (shapeChecks k m l table) refl) (shape-taken k m l table (w .0))
     (inr (
       (λ x. no-mark-above (k + m) marks (div-eq-of-lt (ltb-true marks (2 ^ (k + m)) (v .0))) (x .0) (x .1) (x .2)),
       inr ((λ n. n (eqb-true (count (k + m) (mark marks)) k (v .1))), refl),
     ))
-
--- every cell of a table is the house's
-unfoldable pub houseB : ℕ → ℕ → List ℕ → Bool
-houseB k m table = eqb (length table) (m * k) && allB m (λ a. allB k (λ b. eqb (entry k table a b) (houseShift (a + 1) (b + 1))))
-
-pub house-table : (k m : ℕ) (table : List ℕ) → houseB k m table ≡ true → HouseTable k m table
-unfolding houseB
-house-table k m table e =
-    let w = both (eqb (length table) (m * k)) _ e in
-    record {
-      size = eqb-true (length table) (m * k) (w .0);
-      cell = λ a b la lb. eqb-true _ _ (all-at k (λ b. eqb (entry k table a b) (houseShift (a + 1) (b + 1))) (all-at m (λ a. allB k (λ b. eqb (entry k table a b) (houseShift (a + 1) (b + 1)))) (w .1) a la) b lb);
-    }
-
--- neighbours compared
-unfoldable pub stepB : ℕ → List ℕ → ℕ → ℕ → Bool
-stepB k table a b = ltb (entry k table a (b + 1) + entry k table (a + 1) b) (entry k table (a + 1) (b + 1) + entry k table a b)
-
-unfoldable pub growsB : ℕ → ℕ → List ℕ → Bool
-growsB k m table = allB (m - 1) (λ a. allB (k - 1) (stepB k table a))
-
-unfoldable pub flagOf : Bool → ℕ
-flagOf true = 1
-flagOf false = 0
-
-pub grows-flag : (k m : ℕ) (table : List ℕ) (v : Bool) (n : ℕ) → growsB k m table ≡ v → n ≡ flagOf v → Flag (Grows (desk k m 0 table 0)) n
-unfolding growsB stepB flagOf
-grows-flag k m table true n e f = inl (
-  steps-grow k m (entry k table) (λ a b la lb. ltb-true _ _ (all-at (k - 1) (stepB k table a) (all-at (m - 1) (λ a. allB (k - 1) (stepB k table a)) e a (omega arith)) b (omega arith))),
-  f,
-)
-grows-flag k m table false n e f = inr (
-  (λ g. true≢false (sym (all-of (m - 1) (λ a. allB (k - 1) (stepB k table a)) (λ a la. all-of (k - 1) (stepB k table a) (λ b lb. lt-ltb _ _ (g a (a + 1) b (b + 1) (omega arith) (omega arith) (omega arith) (omega arith))))) ∙ e)),
-  f,
-)

@@ -17,19 +17,29 @@ abbrev pub Checked : Checks → ℕ → Type 0
 Checked [] n = n ≡ 0
 Checked (c ∷ cs) n = (c .1 × (n ≡ c .0)) ⊎ ((c .1 → ⊥) × Checked cs n)
 
+-- An answer to these checks: its number; refused, what holds then; else what was asked for.
+pub record Answered (checks : Checks) (number : ℕ) (Refused Done : Type 0) : Type 0 where
+  pub numbered : Checked checks number
+  pub refused : (number ≡ 0 → ⊥) → Refused
+  pub done : number ≡ 0 → Done
+
+-- n is 1 exactly when P holds, else 0
+abbrev pub Flag : Type 0 → ℕ → Type 0
+Flag P n = (P × (n ≡ 1)) ⊎ ((P → ⊥) × (n ≡ 0))
+
 -- n is not one of 1 to most
 abbrev pub Outside : ℕ → ℕ → Type 0
 Outside most n = (n < 1) ⊎ (most < n)
 
--- 1: k or m is outside 1 to 8
+-- 1: k or m is 0 or above its limit
 abbrev pub sizeChecks : ℕ → ℕ → Checks
 sizeChecks k m = (1, Outside maxK k ⊎ Outside maxM m) ∷ []
 
--- 2: the length is outside 1 to 56
+-- 2: the length is 0 or above its limit
 abbrev pub lengthChecks : ℕ → Checks
 lengthChecks l = (2, Outside maxLength l) ∷ []
 
--- 3: the table is not m·k bytes, or an entry is above 64
+-- 3: the table is not m·k bytes, or an entry is above the largest shift
 abbrev pub tableChecks : ℕ → ℕ → List ℕ → Checks
 tableChecks k m table = (3, (length table ≡ m * k → ⊥) ⊎ ((i : ℕ) × (maxShift < at table i))) ∷ []
 
@@ -53,12 +63,16 @@ countChecks k m marks = (7, count (k + m) (mark marks) ≡ asked k → ⊥) ∷ 
 abbrev pub marksChecks : ℕ → ℕ → ℕ → Checks
 marksChecks k m marks = (6, MarkAbove (k + m) marks) ∷ countChecks k m marks
 
+-- 6: a mark above n is set, or the number asked for, from 1, is none of `among`; 7
+abbrev pub askedChecks : ℕ → ℕ → ℕ → ℕ → ℕ → Checks
+askedChecks k m marks among i = (6, MarkAbove (k + m) marks ⊎ Outside among i) ∷ countChecks k m marks
+
 -- the progress of source c is above the bits of a source, or not 0 where the source is present or there is none
 abbrev pub Astray : ℕ → ℕ → ℕ → List ℕ → ℕ → Type 0
 Astray k l marks progress c =
     (sourceBits l < at progress c) ⊎ ((at progress c ≡ 0 → ⊥) × ((k ≤ c) ⊎ (mark marks c ≡ true)))
 
--- 17: progress above 8·L, or not zero for a source present or a number above k
+-- 17: progress above the bits of a source, or not zero for a source present or a number above k
 abbrev pub progressChecks : ℕ → ℕ → ℕ → List ℕ → Checks
 progressChecks k l marks progress = (17, (c : ℕ) × (c < maxK) × Astray k l marks progress c) ∷ []
 

@@ -25,6 +25,10 @@ entry k table a b = cond (ltb b k) (at table (a * k + b)) 0
 abbrev pub mark : ℕ → ℕ → Bool
 mark marks i = eqb (marks / 2 ^ i % 2) 1
 
+-- the least whole number of bytes that holds n bits
+abbrev pub bytesFor : ℕ → ℕ
+bytesFor n = (n + 7) / 8
+
 -- the bits of a source of length l, and its bytes
 abbrev pub sourceBits : ℕ → ℕ
 sourceBits l = 8 * l
@@ -37,17 +41,20 @@ abbrev pub desk : ℕ → ℕ → ℕ → List ℕ → ℕ → Desk
 desk k m l table marks =
     record { k = k; m = m; bits = sourceBits l; bytes = sourceBytes l; shift = entry k table; present = mark marks }
 
--- the least whole number of bytes that holds n bits
-abbrev pub bytesFor : ℕ → ℕ
-bytesFor n = (n + 7) / 8
-
 -- the largest of the first n values of f
 unfoldable pub most : ℕ → (ℕ → ℕ) → ℕ
 most zero f = 0
 most (suc n) f = pick (leb (f n) (most n f)) (most n f) (f n)
 
 module _ (D : Desk) where
-  open Desk D using (k, m, bits, bytes, shift)
+  open Desk D using (k, m, bits, bytes, shift, present)
+
+  -- the bytes of all sources, one after another; the first bit of source c among them
+  abbrev pub sourcesBytes : ℕ
+  sourcesBytes = k * bytes
+
+  abbrev pub sourcePlace : ℕ → ℕ
+  sourcePlace c = c * (8 * bytes)
 
   -- how far parity a shifts its sources up: all parities of a table as far as its largest entry
   unfoldable pub reach : ℕ → ℕ
@@ -64,6 +71,13 @@ module _ (D : Desk) where
   -- where packet i stands among the packets that are on, one after another with no gaps
   unfoldable pub placeOf : (ℕ → Bool) → ℕ → ℕ
   placeOf on i = sum i (λ j. cond (on j) (packetBytes j) 0)
+
+  -- the bytes of all parities, and of the packets at hand
+  abbrev pub paritiesBytes : ℕ
+  paritiesBytes = placeOf (leb k) (k + m)
+
+  abbrev pub survivorsBytes : ℕ
+  survivorsBytes = placeOf present (k + m)
 
 -- growing differences: for rows a < a′ and columns b < b′, shift a b′ − shift a b is less than shift a′ b′ − shift a′ b
 abbrev pub Grows : Desk → Type 0

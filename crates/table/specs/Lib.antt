@@ -2,4 +2,3 @@ pub mod Limits
 pub mod Desk
 pub mod Table
 pub mod Checks
-pub mod Promise

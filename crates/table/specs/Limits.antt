@@ -1,8 +1,11 @@
 -- The limits of document 01. `Table::limits` ties them to the constants of the code.
 use mathlib.Core.Path.{_≡_}
+use mathlib.Core.List.{List}
 use Prim.Native.Nat.{ℕ, _+_, _*_}
+use lib.ListN.{replicate}
+use Rattle.table.specs.Desk.{sourceBits, sourceBytes, bytesFor}
 
--- the most sources, parities, bytes of a source, and the largest shift
+-- the most sources and parities, the length of the longest source, and the largest shift
 abbrev pub maxK : ℕ
 maxK = 8
 
@@ -19,9 +22,27 @@ maxShift = 64
 abbrev pub cells : ℕ
 cells = maxM * maxK
 
+-- the most packets
+abbrev pub maxPackets : ℕ
+maxPackets = maxK + maxM
+
+-- the bits and bytes of the longest source, and the bytes of as many as there can be
+abbrev pub maxBits : ℕ
+maxBits = sourceBits maxLength
+
+abbrev pub maxBytes : ℕ
+maxBytes = sourceBytes maxLength
+
+abbrev pub allSources : ℕ
+allSources = maxK * maxBytes
+
 -- the bytes of the longest parity
 abbrev pub longest : ℕ
-longest = 64
+longest = bytesFor (maxBits + maxShift)
+
+-- a nought for each source that there can be
+abbrev pub noughts : List ℕ
+noughts = replicate maxK 0
 
 pub record Limited (sources parities length shift : ℕ) : Type 0 where
   pub sources-are : sources ≡ maxK

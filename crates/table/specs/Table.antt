@@ -1,17 +1,15 @@
 -- The shapes and tables of the code, and what they stand for.
 use mathlib.Core.Path.{_≡_}
-use mathlib.Core.Bool.{true, false, cond, not, _&&_}
+use mathlib.Core.Bool.{Bool, true, false, cond, not, _&&_}
 use mathlib.Core.List.{List}
-use Prim.Native.Nat.{ℕ, _+_, _-_, _*_, _/_, _%_, _≤_, _<_}
+use Prim.Native.Nat.{ℕ, _+_, _-_, _*_, _/_, _%_, _^_, _≤_, _<_}
 use lib.Dec.{ltb}
 use lib.ListN.{length}
 use Rattle.bits.specs.Sums.{at}
 use Rattle.table.specs.Limits.{maxK, maxM, maxLength, maxShift}
-use Rattle.table.specs.Desk.{Desk, entry, mark, sourceBits, sourceBytes}
-use Rattle.table.specs.Checks.{Checks, Checked}
+use Rattle.table.specs.Desk.{Desk, entry, mark, sourceBits, sourceBytes, survivorsBytes}
 use Rattle.table.specs.declared.Shape.{Shape}
 use Rattle.table.specs.declared.Table.{Table}
-use Rattle.table.specs.declared.Opened.{Opened}
 
 -- the house family: parity a and source b, both from 1, have the shift a·(b − 1)
 abbrev pub houseShift : ℕ → ℕ → ℕ
@@ -51,6 +49,15 @@ pub record Within (s : Shape) (shifts : List ℕ) : Type 0 where
   pub l-high : s .length ≤ maxLength
   pub low : (i : ℕ) → at shifts i ≤ maxShift
 
+-- so, and no mark above the packets is set
+pub record Ready (s : Shape) (shifts : List ℕ) : Type 0 where
+  pub within : Within s shifts
+  pub none-above : s .marks / 2 ^ (s .k + s .m) ≡ 0
+
+-- the packets are as long as those at hand
+abbrev pub Survivors : Shape → List ℕ → List ℕ → Type 0
+Survivors s shifts packets = length packets ≡ survivorsBytes (deskOf s shifts)
+
 -- t holds the table: k columns, m rows, its shifts laid out eight to a row, none above the limit
 pub record Holds (k m : ℕ) (table : List ℕ) (t : Table) : Type 0 where
   pub k-is : t .k ≡ k
@@ -58,25 +65,9 @@ pub record Holds (k m : ℕ) (table : List ℕ) (t : Table) : Type 0 where
   pub laid : laidOut k (t .shifts) ≡ entry k table
   pub low : (i : ℕ) → at (t .shifts) i ≤ maxShift
 
--- what the checks of a call give: its number, and with number 0 its shape and table; what stands there otherwise is within the limits too
-pub record Opens (checks : Checks) (k m l : ℕ) (table : List ℕ) (marks : ℕ) (o : Opened) : Type 0 where
-  pub numbered : Checked checks (o .number)
-  pub within : Within (o .shape) (o .table .shifts)
-  pub formed : o .number ≡ 0 → o .shape ≡ record { k = k; m = m; length = l; marks = marks }
-  pub held : o .number ≡ 0 → Holds k m table (o .table)
-
--- p is the lowest mark that is set
-pub record LowestMark (marks p : ℕ) : Type 0 where
-  pub set : mark marks p ≡ true
-  pub below : (i : ℕ) → i < p → mark marks i ≡ false
-
--- the difference between columns b and b + 1 grows from row a to row a + 1; so in every column of the row; so in every row
-abbrev pub StepGrows : List ℕ → ℕ → ℕ → Type 0
-StepGrows shifts a b =
-    at shifts (a * maxK + b + 1) + at shifts (a * maxK + b + maxK) < at shifts (a * maxK + b + maxK + 1) + at shifts (a * maxK + b)
-
-abbrev pub RowGrows : ℕ → List ℕ → ℕ → Type 0
-RowGrows k shifts a = (b : ℕ) → b + 1 < k → StepGrows shifts a b
-
-abbrev pub TableGrows : ℕ → ℕ → List ℕ → Type 0
-TableGrows k m shifts = (a : ℕ) → a + 1 < m → RowGrows k shifts a
+-- r is the first packet from i on, below n, whose mark is v; or n where there is none
+pub record NextMark (v : Bool) (marks i n r : ℕ) : Type 0 where
+  pub from : i ≤ r
+  pub most : r ≤ n
+  pub passed : (c : ℕ) → i ≤ c → c < r → mark marks c ≡ not v
+  pub found : r < n → mark marks r ≡ v

@@ -1,18 +1,15 @@
-// The shift table, the shape that all calls share, and the numbers that refuse a shape.
-pub mod house;
-pub mod judge;
+// The shift table, the shape that all calls share, and the list of numbers.
 pub mod packets;
 
 ghost use mathlib.Core.Path.{_≡_};
 ghost use mathlib.Core.List.{_++_};
 ghost use lib.ListN.{length};
-ghost use Prim.Native.Nat.{ℕ, _+_, _*_, _/_, _%_, _≤_, _<_};
+ghost use Prim.Native.Nat.{ℕ, _*_, _/_, _%_, _≤_, _<_};
 ghost use Rattle.bits.specs.Sums.{at};
-ghost use Rattle.bits.specs.Bits.{Tells};
 ghost use Rattle.table.specs.Limits.{Limited, maxK, maxM, maxLength, maxShift, cells};
 ghost use Rattle.table.specs.Desk.{entry, mark, sourceBits, sourceBytes};
-ghost use Rattle.table.specs.Table.{Within, Holds, Opens, houseCell, laidOut, roomOf};
-ghost use Rattle.table.specs.Checks.{Checked, sizeChecks, lengthChecks, tableChecks, numberChecks, marksChecks, progressChecks, shapeChecks, markedChecks, Astray};
+ghost use Rattle.table.specs.Table.{Within, Holds, houseCell, laidOut};
+ghost use Rattle.table.specs.Checks.{Checked, sizeChecks, tableChecks};
 
 // A shift table: k columns and m rows, its shifts laid out eight to a row as in the full sheet.
 pub struct Table {
@@ -29,24 +26,20 @@ pub struct Shape {
     pub marks: u64,
 }
 
-// What the checks give: a number, and with number 0 the shape and its table.
-pub struct Opened {
-    pub number: u64,
-    pub shape: Shape,
-    pub table: Table,
-}
-
 // The numbers of the list, one name each.
 pub struct Number {}
 
 impl Number {
-    // k or m is outside 1 to 8
+    // not refused
+    pub const DONE: u64 = 0;
+
+    // k or m is 0 or above its limit
     pub const SIZE: u64 = 1;
 
-    // the length is outside 1 to 56
+    // the length is 0 or above its limit
     pub const LENGTH: u64 = 2;
 
-    // the table is not m·k bytes, or an entry is above 64
+    // the table is not m·k bytes, or an entry is above the largest shift
     pub const TABLE: u64 = 3;
 
     // an input buffer has not the exact length
@@ -70,8 +63,29 @@ impl Number {
     // no sources encode to these packets
     pub const FOREIGN: u64 = 10;
 
+    // a block has fewer than 4 bytes
+    pub const BLOCK_SHORT: u64 = 11;
+
+    // a block's LEN is 255, which is reserved
+    pub const BLOCK_RESERVED: u64 = 12;
+
+    // a block's length is not LEN + 4
+    pub const BLOCK_LENGTH: u64 = 13;
+
+    // the XOR of all bytes of a block is not 0
+    pub const BLOCK_SUM: u64 = 14;
+
+    // a block's NAD is not 00, or its PCB is neither 00 nor 40
+    pub const BLOCK_HEADER: u64 = 15;
+
+    // a block's LEN is above the destination's length
+    pub const ROOM: u64 = 16;
+
     // progress above the bits of a source, or not zero for a source present or a number above k
     pub const PROGRESS: u64 = 17;
+
+    // the class sheet's input is not exactly one line of its form
+    pub const LINE: u64 = 18;
 }
 
 // The limits, for the proof that the definitions state the same.
@@ -94,11 +108,16 @@ impl Table {
     // The sources, as the length of an array of progress numbers.
     pub const SOURCES: usize = Table::MAX_K as usize;
 
+    // The bytes of the longest source, and of as many as there can be.
+    pub const MAX_BYTES: usize = Table::MAX_LENGTH as usize;
+
+    pub const ALL_SOURCES: usize = Table::SOURCES * Table::MAX_BYTES;
+
     // The cells of the full sheet.
     pub const CELLS: usize = (Table::MAX_K * Table::MAX_M) as usize;
 
     // The bytes of the longest parity.
-    pub const LONGEST: usize = ((8 * Table::MAX_LENGTH + Table::MAX_SHIFT as u64) / 8) as usize;
+    pub const LONGEST: usize = ((8 * Table::MAX_LENGTH + Table::MAX_SHIFT as u64 + 7) / 8) as usize;
 
     // The full sheet of the house family: parity a and source b, both from 1, have the shift a·(b − 1).
     pub const HOUSE: [u8; Table::CELLS] = [
@@ -206,7 +225,7 @@ impl Table {
     }
 
     // A table that stands where there is none.
-    fn least() -> Table
+    pub fn least() -> Table
         ensures { λ r. ⌜ ((i : ℕ) → at (r .shifts) i ≤ maxShift) ⌝ }
     {
         Table {
@@ -247,96 +266,12 @@ fn laid_out(k: usize, m: usize, table: &[u8]) -> [u8; Table::CELLS]
     shifts
 }
 
-// Whether every entry is a shift that is taken.
-fn low(table: &[u8]) -> bool
-    ensures { λ r. ⌜ Tells r ((i : ℕ) → at (now (table .entry)) i ≤ maxShift) ⌝ }
-{
-    let mut i = 0;
-    while i < table.len() {
-        if Table::MAX_SHIFT < table[i] {
-            return false;
-        }
-        i += 1;
-    }
-    true
-}
-
-// 1.
-pub fn size_number(k: u64, m: u64) -> u64
-    ensures { λ r. ⌜ Checked (sizeChecks k m) r ⌝ }
-{
-    if k < 1 {
-        return Number::SIZE;
-    }
-    if Table::MAX_K < k {
-        return Number::SIZE;
-    }
-    if m < 1 {
-        return Number::SIZE;
-    }
-    if Table::MAX_M < m {
-        return Number::SIZE;
-    }
-    0
-}
-
-// 2.
-pub fn length_number(l: u64) -> u64
-    ensures { λ r. ⌜ Checked (lengthChecks l) r ⌝ }
-{
-    if l < 1 {
-        return Number::LENGTH;
-    }
-    if Table::MAX_LENGTH < l {
-        return Number::LENGTH;
-    }
-    0
-}
-
-// 3.
-pub fn table_number(k: u64, m: u64, table: &[u8]) -> u64
-    requires { ⌜ (k ≤ maxK) × (m ≤ maxM) ⌝ }
-    ensures { λ r. ⌜ Checked (tableChecks k m (now (table .entry))) r ⌝ }
-{
-    if table.len() as u64 != m * k {
-        return Number::TABLE;
-    }
-    if low(table) { 0 } else { Number::TABLE }
-}
-
-// 6, for a number that is to be one of 1 to n.
-pub fn one_of(n: u64, i: u64) -> u64
-    ensures { λ r. ⌜ Checked (numberChecks n i) r ⌝ }
-{
-    if i < 1 {
-        return Number::PACKET;
-    }
-    if n < i {
-        return Number::PACKET;
-    }
-    0
-}
-
 // Whether packet i, from 0, is present.
 pub fn marked(marks: u64, i: usize) -> bool
     requires { ⌜ i < 64 ⌝ }
     ensures { λ r. ⌜ r ≡ mark marks i ⌝ }
 {
     (marks >> i) % 2 == 1
-}
-
-// 6 and 7.
-pub fn marks_number(k: usize, m: usize, marks: u64) -> u64
-    requires { ⌜ (k ≤ maxK) × (m ≤ maxM) ⌝ }
-    ensures { λ r. ⌜ Checked (marksChecks k m marks) r ⌝ }
-{
-    if marks >> (k + m) != 0 {
-        return Number::PACKET;
-    }
-    if u64::count_ones(marks) as usize != k {
-        return Number::MARKS;
-    }
-    0
 }
 
 // The bits of a source.
@@ -366,100 +301,4 @@ fn wide(x: u8) -> usize
     ensures { λ r. ⌜ r ≡ x ⌝ }
 {
     x as usize
-}
-
-// The progress that source c, from 0, may have: up to its bits where it is missing, else none.
-fn room(s: Shape, c: usize) -> u64
-    requires { ⌜ (s .length ≤ maxLength) × (c < maxK) ⌝ }
-    ensures { λ r. ⌜ r ≡ roomOf (s .k) (s .length) (s .marks) c ⌝ }
-{
-    if s.k <= c {
-        return 0;
-    }
-    if marked(s.marks, c) {
-        return 0;
-    }
-    source_bits(s) as u64
-}
-
-// 17.
-pub fn progress_number(s: Shape, progress: &[u64; Table::SOURCES]) -> u64
-    requires { ⌜ s .length ≤ maxLength ⌝ }
-    ensures { λ r. ⌜ Checked (progressChecks (s .k) (s .length) (s .marks) (now (progress .entry))) r ⌝ }
-{
-    let mut c = 0;
-    while c < Table::SOURCES {
-        if room(s, c) < progress[c] {
-            return Number::PROGRESS;
-        }
-        c += 1;
-    }
-    0
-}
-
-// What stands where a call is refused.
-fn refused(number: u64) -> Opened
-    ensures { λ r. ⌜ (r .number ≡ number) × Within (r .shape) (r .table .shifts) ⌝ }
-{
-    Opened {
-        number,
-        shape: Shape {
-            k: 1,
-            m: 1,
-            length: 1,
-            marks: 0,
-        },
-        table: Table::least(),
-    }
-}
-
-// 1, 2 and 3.
-fn shape_number(k: u64, m: u64, l: u64, table: &[u8]) -> u64
-    ensures { λ r. ⌜ Checked (shapeChecks k m l (now (table .entry))) r ⌝ }
-{
-    let size = size_number(k, m);
-    if size != 0 {
-        return size;
-    }
-    let length = length_number(l);
-    if length != 0 {
-        return length;
-    }
-    table_number(k, m, table)
-}
-
-// Checks 1, 2 and 3, the shape with its marks as they came, and the table.
-pub fn open_shape(k: u64, m: u64, l: u64, table: &[u8], marks: u64) -> Opened
-    ensures { λ r. ⌜ Opens (shapeChecks k m l (now (table .entry))) k m l (now (table .entry)) marks r ⌝ }
-{
-    let number = shape_number(k, m, l, table);
-    if number != 0 {
-        return refused(number);
-    }
-    Opened {
-        number: 0,
-        shape: Shape {
-            k: k as usize,
-            m: m as usize,
-            length: l as usize,
-            marks,
-        },
-        table: Table::new(k, m, table),
-    }
-}
-
-// Checks 1, 2, 3, 6 and 7, the shape and the table.
-pub fn open_marked(k: u64, m: u64, l: u64, table: &[u8], marks: u64) -> Opened
-    ensures { λ r. ⌜ Opens (markedChecks k m l (now (table .entry)) marks) k m l (now (table .entry)) marks r ⌝ }
-{
-    let o = open_shape(k, m, l, table, marks);
-    if o.number != 0 {
-        return o;
-    }
-    let s = o.shape;
-    let number = marks_number(s.k, s.m, marks);
-    if number != 0 {
-        return refused(number);
-    }
-    o
 }

@@ -2,12 +2,14 @@
 use crate::Shape;
 use crate::Table;
 ghost use mathlib.Core.Path.{_≡_};
+ghost use mathlib.Core.Bool.{true, false};
+ghost use mathlib.Core.List.{[]};
 ghost use lib.Dec.{leb};
 ghost use Prim.Native.Nat.{ℕ, _+_, _*_, _/_, _^_, _≤_, _<_};
 ghost use Rattle.bits.specs.Sums.{pick};
-ghost use Rattle.table.specs.Limits.{maxShift, longest};
-ghost use Rattle.table.specs.Desk.{most, mark, reach, packetBits, packetBytes, placeOf};
-ghost use Rattle.table.specs.Table.{Within, deskOf, laidOut, LowestMark};
+ghost use Rattle.table.specs.Limits.{maxK, maxLength, maxShift, maxPackets, allSources, longest};
+ghost use Rattle.table.specs.Desk.{most, reach, sourcesBytes, sourcePlace, packetBits, packetBytes, paritiesBytes, survivorsBytes};
+ghost use Rattle.table.specs.Table.{Within, deskOf, laidOut, NextMark};
 
 // The larger of two numbers.
 fn larger(x: usize, y: usize) -> usize
@@ -44,6 +46,22 @@ pub fn reach(s: Shape, shifts: &[u8; Table::CELLS], a: usize) -> usize
     x
 }
 
+// The bytes of all sources: no shift matters.
+pub fn sources_bytes(s: Shape) -> usize
+    requires { ⌜ (s .k ≤ maxK) × (s .length ≤ maxLength) ⌝ }
+    ensures { λ r. ⌜ (r ≡ sourcesBytes (deskOf s [])) × (r ≤ allSources) ⌝ }
+{
+    s.k * crate::source_bytes(s)
+}
+
+// The first bit of source c among sources that stand one after another.
+pub fn source_place(s: Shape, c: usize) -> usize
+    requires { ⌜ (c ≤ maxK) × (s .length ≤ maxLength) ⌝ }
+    ensures { λ r. ⌜ (r ≡ sourcePlace (deskOf s []) c) × (r ≤ 8 * allSources) ⌝ }
+{
+    c * (8 * crate::source_bytes(s))
+}
+
 // The bits of packet i.
 pub fn packet_bits(s: Shape, shifts: &[u8; Table::CELLS], i: usize) -> usize
     requires { ⌜ Within s (now shifts) × (i < s .k + s .m) ⌝ }
@@ -70,7 +88,7 @@ pub fn packet_bytes(s: Shape, shifts: &[u8; Table::CELLS], i: usize) -> usize
 // The bytes of all parities.
 pub fn parities_bytes(s: Shape, shifts: &[u8; Table::CELLS]) -> usize
     requires { ⌜ Within s (now shifts) ⌝ }
-    ensures { λ r. ⌜ r ≡ placeOf (deskOf s (now (shifts .entry))) (leb (s .k)) (s .k + s .m) ⌝ }
+    ensures { λ r. ⌜ r ≡ paritiesBytes (deskOf s (now (shifts .entry))) ⌝ }
 {
     let mut total = 0;
     let mut a = 0;
@@ -81,27 +99,39 @@ pub fn parities_bytes(s: Shape, shifts: &[u8; Table::CELLS]) -> usize
     total
 }
 
-// The lowest mark that is set.
-pub fn lowest_present(marks: u64) -> usize
-    requires { ⌜ 0 < marks ⌝ }
-    ensures { λ r. ⌜ LowestMark marks r × (r < 64) ⌝ }
+// The first packet present from packet i on, or n where there is none below n.
+pub fn next_present(marks: u64, i: usize, n: usize) -> usize
+    requires { ⌜ (i ≤ n) × (n ≤ maxPackets) ⌝ }
+    ensures { λ r. ⌜ NextMark true marks i n r ⌝ }
 {
-    u64::trailing_zeros(marks) as usize
+    let rest = marks >> i;
+    if rest == 0 {
+        return n;
+    }
+    let next = i + u64::trailing_zeros(rest) as usize;
+    if next < n { next } else { n }
 }
 
-// The bytes of all packets present, from one mark to the next.
-pub fn survivors_bytes(s: Shape, shifts: &[u8; Table::CELLS]) -> usize
-    requires { ⌜ Within s (now shifts) × (s .marks / 2 ^ (s .k + s .m) ≡ 0) ⌝ }
-    ensures { λ r. ⌜ r ≡ placeOf (deskOf s (now (shifts .entry))) (mark (s .marks)) (s .k + s .m) ⌝ }
+// The first packet missing from packet i on, or n where there is none below n.
+pub fn next_missing(marks: u64, i: usize, n: usize) -> usize
+    requires { ⌜ (i ≤ n) × (n ≤ maxPackets) ⌝ }
+    ensures { λ r. ⌜ NextMark false marks i n r ⌝ }
 {
+    let next = i + u64::trailing_zeros(u64::MAX - (marks >> i)) as usize;
+    if next < n { next } else { n }
+}
+
+// The bytes of all packets present, from one to the next.
+pub fn survivors_bytes(s: Shape, shifts: &[u8; Table::CELLS]) -> usize
+    requires { ⌜ Within s (now shifts) ⌝ }
+    ensures { λ r. ⌜ r ≡ survivorsBytes (deskOf s (now (shifts .entry))) ⌝ }
+{
+    let n = s.k + s.m;
     let mut total = 0;
-    let mut next = 0;
-    let mut rest = s.marks;
-    while rest != 0 {
-        let skip = lowest_present(rest);
-        total += packet_bytes(s, shifts, next + skip);
-        next += skip + 1;
-        rest = rest >> skip >> 1;
+    let mut i = next_present(s.marks, 0, n);
+    while i < n {
+        total += packet_bytes(s, shifts, i);
+        i = next_present(s.marks, i + 1, n);
     }
     total
 }

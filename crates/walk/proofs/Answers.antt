@@ -8,18 +8,18 @@ use native.Mathlib.Nat.{mul-le-mul-left}
 use lib.ListN.{length}
 use Rattle.bits.specs.Sums.{at, count}
 use Rattle.bits.proofs.SumLaws.{count-not}
-use Rattle.table.specs.Limits.{maxK}
+use Rattle.table.specs.Limits.{maxK, noughts}
 use Rattle.table.specs.Desk.{Desk, desk}
-use Rattle.table.specs.Checks.{Checked, markedChecks}
-use Rattle.table.specs.Promise.{Flag}
+use Rattle.table.specs.Checks.{Checked, Flag, markedChecks}
 use Rattle.walk.specs.Walk.{Run, Fits, Whole}
 use Rattle.walk.specs.Compute.{wholeB, walkFrom}
-use Rattle.walk.specs.Promise.{noughts, Finished, Walked}
+use Rattle.walk.specs.Promise.{Finished, Walked}
 use Rattle.walk.proofs.Runs.{run-fits}
 use Rattle.walk.proofs.Totals.{all, gone}
 use Rattle.walk.proofs.Computed.{walk-ends, flag-one, flag-none}
-use Rattle.walk.proofs.Reached.{at-noughts}
-use Rattle.table.proofs.OpenLaws.{shaped, marked-parts}
+use Rattle.walk.proofs.Reached.{at-noughts, run-reaches}
+use Rattle.table.proofs.AnswerLaws.{answer-done}
+use Rattle.table.proofs.ShapeLaws.{shaped, marked-parts}
 
 pub record Answer : Type 0 where
   pub count : ℕ
@@ -51,14 +51,13 @@ module _ (D : Desk) where
   finished : D .k ≤ maxK → Finished D (answerOf D .count) (answerOf D .whole) (answerOf D .progress)
   unfolding answerOf
   finished kl =
+      let w = walkFrom D (D .bits * D .k) noughts in
       let r = walk-ends D (D .bits * D .k) noughts kl fits-noughts (omega (arith, enough)) in
       record {
-        order = walkFrom D (D .bits * D .k) noughts .0;
-        run = subst (λ (g : ℕ → ℕ). Run D g (walkFrom D (D .bits * D .k) noughts .0) (at (walkFrom D (D .bits * D .k) noughts .1))) (sym at-noughts) (r .0);
+        reached = run-reaches D (subst (λ (g : ℕ → ℕ). Run D g (w .0) (at (w .1))) (sym at-noughts) (r .0));
         stuck = r .1;
-        eight = r .2;
-        counted = refl;
-        flagged = flag (at (walkFrom D (D .bits * D .k) noughts .1)) (run-fits D (r .0) fits-noughts);
+        size = r .2;
+        flagged = flag (at (w .1)) (run-fits D (r .0) fits-noughts);
       }
 
 abbrev pub Meets : ℕ → ℕ → ℕ → List ℕ → ℕ → Answer → Type 0
@@ -66,8 +65,5 @@ Meets k m l table marks r = Walked k m l table marks 0 (r .count) (r .whole) (r 
 
 -- where the call is accepted, the computed answer meets the promise
 pub answer-meets : (k m l : ℕ) (table : List ℕ) (marks : ℕ) → Checked (markedChecks k m l table marks) 0 → Meets k m l table marks (answerOf (desk k m l table marks))
-answer-meets k m l table marks x = record {
-  numbered = x;
-  refused = λ n. absurd (n refl);
-  done = λ _. finished (desk k m l table marks) (shaped k m l table (marked-parts k m l table marks x .0) .k-high);
-}
+answer-meets k m l table marks x =
+    answer-done (markedChecks k m l table marks) 0 x refl (finished (desk k m l table marks) (shaped k m l table (marked-parts k m l table marks x .0) .k-high))

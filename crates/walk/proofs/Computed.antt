@@ -13,9 +13,9 @@ use borrow.Author.Tests.{ltb-true, ltb-false, lt-ltb, leb-true, le-leb, lt-leb}
 use Rattle.bits.specs.Sums.{at}
 use Rattle.bits.proofs.SumLaws.{oneAt-same, oneAt-other, all-at, all-of, lowest-is, lowest-not}
 use Rattle.table.specs.Desk.{Desk}
+use Rattle.table.specs.Checks.{Flag}
 use Rattle.walk.specs.Walk.{Order, bump, Free, Bare, Stuck, Run, done, step, Fits, Whole, Lowest, Next, none, one}
 use Rattle.walk.specs.Compute.{sourceOf, parityOf, fullB, wholeB, walkFrom}
-use Rattle.table.specs.Promise.{Flag}
 use Rattle.walk.proofs.Runs.{bump-fits}
 use Rattle.walk.proofs.Scan.{bare-source, source-bare}
 use Rattle.walk.proofs.Totals.{total, all, total-step, total-all}
@@ -45,6 +45,10 @@ module _ (D : Desk) where
   unfolding parityOf
   pair-bare g l = source-bare D g (parityOf D g) l (ltb-true _ _ (lowest-is m (λ a. ltb (sourceOf D g a) k) l))
 
+  -- so a pair that is the one computed is bare
+  pub found-bare : (g : ℕ → ℕ) (a b : ℕ) → a < m → a ≡ parityOf D g → b ≡ sourceOf D g a → Bare D g a b
+  found-bare g a b l ea eb = rw (eb, ea) (pair-bare g (omega arith))
+
   pub pair-lowest : (g : ℕ → ℕ) → parityOf D g < m → Lowest D g (parityOf D g) (sourceOf D g (parityOf D g))
   pair-lowest g l = record {
     bare = pair-bare g l;
@@ -63,7 +67,7 @@ module _ (D : Desk) where
   next-one g after a b l ea eb e = one a b (rw (eb, ea) (pair-lowest (at g) (omega arith))) refl refl e
 
   pub next-free : (g : List ℕ) (a b : ℕ) → a < m → a ≡ parityOf D (at g) → b ≡ sourceOf D (at g) a → Free D (at g) b
-  next-free g a b l ea eb = rw (eb, ea) (pair-bare (at g) (omega arith) .free)
+  next-free g a b l ea eb = found-bare (at g) a b l ea eb .free
 
   -- a source that is present or at its end
   pub full-present : (g : ℕ → ℕ) (b : ℕ) → present b ≡ true → fullB D g b ≡ true
@@ -97,16 +101,17 @@ module _ (D : Desk) where
   pub flag-none : (g : ℕ → ℕ) → wholeB D g ≡ false → Flag (Whole D g) 0
   flag-none g e = inr ((λ w. true≢false (sym (of-whole g w) ∙ e)), refl)
 
-  abbrev pub Ended : List ℕ → Order × List ℕ → Type 0
-  Ended g r = Run D (at g) (r .0) (at (r .1)) × Stuck D (at (r .1)) × (length (r .1) ≡ length g)
+  -- steps from g until none is left
+  abbrev pub EndsAt : List ℕ → Order × List ℕ → Type 0
+  EndsAt g r = Run D (at g) (r .0) (at (r .1)) × Stuck D (at (r .1)) × (length (r .1) ≡ length g)
 
   -- with enough fuel the walk ends stuck
-  pub walk-ends : (f : ℕ) (g : List ℕ) → k ≤ length g → Fits D (at g) → all D ≤ total D (at g) + f → Ended g (walkFrom D f g)
+  pub walk-ends : (f : ℕ) (g : List ℕ) → k ≤ length g → Fits D (at g) → all D ≤ total D (at g) + f → EndsAt g (walkFrom D f g)
   unfolding walkFrom
   walk-ends zero g kl fit fuel = (done, λ a b B. omega (arith, total-step D (at g) b (B .free .0), total-all D (bump (at g) b) (bump-fits D (at g) a b B fit)), refl)
   walk-ends (suc f) g kl fit fuel = go (ltb (parityOf D (at g)) m) refl (walk-ends f)
     where
-      go : (v : Bool) → ltb (parityOf D (at g)) m ≡ v → ((g′ : List ℕ) → k ≤ length g′ → Fits D (at g′) → all D ≤ total D (at g′) + f → Ended g′ (walkFrom D f g′)) → Ended g (walkFrom D (suc f) g)
+      go : (v : Bool) → ltb (parityOf D (at g)) m ≡ v → ((g′ : List ℕ) → k ≤ length g′ → Fits D (at g′) → all D ≤ total D (at g′) + f → EndsAt g′ (walkFrom D f g′)) → EndsAt g (walkFrom D (suc f) g)
       go false e ih = rw (e, walkFrom) (done, no-pair (at g) (ltb-false _ _ e), refl)
       go true e ih =
           let a = parityOf D (at g) in
@@ -117,4 +122,5 @@ module _ (D : Desk) where
           let more : all D ≤ total D (bump (at g) b) + f = omega (arith, total-step D (at g) b (B .free .0)) in
           let fuel′ = subst (λ (h : ℕ → ℕ). all D ≤ total D h + f) (sym eb) more in
           let r = ih (set g b (at g b + 1)) (rw length-set kl) fit′ fuel′ in
-          rw (e, walkFrom) (step a b B (subst (λ (h : ℕ → ℕ). Run D h (walkFrom D f (set g b (at g b + 1)) .0) (at (walkFrom D f (set g b (at g b + 1)) .1))) eb (r .0)), r .1, r .2 ∙ length-set g b (at g b + 1))
+          let w = walkFrom D f (set g b (at g b + 1)) in
+          rw (e, walkFrom) (step a b B (subst (λ (h : ℕ → ℕ). Run D h (w .0) (at (w .1))) eb (r .0)), r .1, r .2 ∙ length-set g b (at g b + 1))

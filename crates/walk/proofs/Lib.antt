@@ -4,7 +4,8 @@ pub mod Grow
 pub mod ReadLaws
 pub mod Scan
 pub mod Computed
-pub mod Ends
 pub mod Reached
+pub mod Ends
 pub mod Desks
 pub mod Answers
+pub mod OneAnswer

@@ -7,11 +7,12 @@ use native.Mathlib.Omega.{arith}
 use native.Mathlib.Decide.{ℕ-discrete, decLt}
 use borrow.Author.Tests.{eq-eqb, ne-eqb}
 use Rattle.bits.specs.Bits.{up}
-use Rattle.bits.proofs.SumLaws.{oneAt-same, oneAt-other, sum-same, sum-nought, sum-but}
+use Rattle.bits.proofs.SumLaws.{oneAt-same, oneAt-other, sum-nought, sum-but}
 use Rattle.table.specs.Desk.{Desk}
+use Rattle.code.specs.Code.{Bits, sumOf, parity, Source, Encodes}
+use Rattle.code.proofs.CodeLaws.{sum-of-same}
 use Rattle.walk.specs.Walk.{Order, bump, Gone, Bare, Run, done, step, Whole}
-use Rattle.encode.specs.Code.{Bits, sumOf, parity}
-use Rattle.walk.specs.Read.{put, Source, Knows, Encodes, read, learn, readBy}
+use Rattle.walk.specs.Read.{put, Knows, read, learn, readBy}
 use Rattle.bits.proofs.UpLaws.{up-at, up-same, up-high}
 use Rattle.walk.proofs.Runs.{snoc}
 
@@ -30,20 +31,16 @@ put-source s b p v c q ne = rw (ne-eqb b c ne)
 module _ (D : Desk) where
   open Desk D using (k, m, bits, shift, present)
 
-  pub sum-of-same : (x y : Bits) → ((c p : ℕ) → c < k → x c p ≡ y c p) → (a q : ℕ) → sumOf D x a q ≡ sumOf D y a q
-  unfolding sumOf
-  sum-of-same x y e a q = sum-same k _ _ (λ c l. up-same (shift a c) (x c) (y c) q (λ p _. e c p l))
-
+  -- equal sources have equal parities: belongs to code
   pub parity-same : (x y : Bits) → ((c p : ℕ) → c < k → x c p ≡ y c p) → (a q : ℕ) → parity D x a q ≡ parity D y a q
-  parity-same x y e a q = ap (λ v. v % 2) (sum-of-same x y e a q)
+  parity-same x y e a q = ap (λ v. v % 2) (sum-of-same D x y e a q)
 
-  -- past the last bit of every source as it is shifted, no parity has a one
-  pub sum-of-high : (x : Bits) (a q : ℕ) → Source D x → ((c : ℕ) → c < k → shift a c + bits ≤ q) → sumOf D x a q ≡ 0
-  unfolding sumOf
-  sum-of-high x a q X h = sum-nought k (λ c. up (shift a c) (x c) q) (λ c l. up-high (shift a c) (x c) bits q (λ p lp. X .short c p lp) (h c l))
-
+  -- past the last bit of every source as it is shifted, no parity has a one: belongs to code
   pub parity-high : (x : Bits) (a q : ℕ) → Source D x → ((c : ℕ) → c < k → shift a c + bits ≤ q) → parity D x a q ≡ 0
-  parity-high x a q X h = rw (sum-of-high x a q X h)
+  unfolding sumOf
+  parity-high x a q X h =
+      let none = sum-nought k (λ c. up (shift a c) (x c) q) (λ c l. up-high (shift a c) (x c) bits q (λ p lp. X .short c p l lp) (h c l)) in
+      rw none
 
   -- under a bare bit every other source is known
   other-known : (x s : Bits) (g : ℕ → ℕ) (a b c : ℕ) → Source D x → Knows D x g s → Bare D g a b → c < k → b ≢ c
@@ -57,7 +54,7 @@ module _ (D : Desk) where
             | yes l ↦ sym (K .below c p (lt, mc) l)
             | no l ↦ elim (decLt (g c) bits) [
               | yes u ↦ absurd (omega (arith, B .lowest c ne ((lt, mc), u)))
-              | no u ↦ X .short c p (omega arith) ∙ sym (K .above c p (lt, mc) (omega arith))
+              | no u ↦ X .short c p lt (omega arith) ∙ sym (K .above c p (lt, mc) (omega arith))
             ]
           ]
 
@@ -130,7 +127,7 @@ module _ (D : Desk) where
           | yes f ↦ rw (put-same s b (g b) (read D r s g a b) c q f e) (omega arith)
         ]
       ];
-      short = λ c q l. put-bit s b (g b) _ c q (omega (arith, B .free .1)) ∙ S .short c q l;
+      short = λ c q lc l. put-bit s b (g b) _ c q (omega (arith, B .free .1)) ∙ S .short c q lc l;
     }
 
     learn-encodes : (s x : Bits) (g : ℕ → ℕ) (a b : ℕ) → Bare D g a b → Encodes D r s x → Encodes D r (learn D r s g a b) x
@@ -171,7 +168,7 @@ module _ (D : Desk) where
           at true mc = K .kept c p lt mc
           at false mc = elim (decLt p bits) [
             | yes l ↦ K .below c p (lt, mc) (omega (arith, whole c (lt, mc)))
-            | no l ↦ K .above c p (lt, mc) (omega (arith, whole c (lt, mc))) ∙ sym (E .source .short c p (omega arith))
+            | no l ↦ K .above c p (lt, mc) (omega (arith, whole c (lt, mc))) ∙ sym (E .source .short c p lt (omega arith))
           ]
 
       -- so sources encode to the packets exactly if what was read does

@@ -33,7 +33,9 @@ module _ (D : Desk) where
 
   pub total-whole : (g : ℕ → ℕ) → Fits D g → Whole D g → total g ≡ all
   unfolding total
-  total-whole g fit full = omega (arith, total-all g fit, sum-each bits k gone, sum-le k (λ c. cond (gone c) bits 0) (λ c. cond (gone c) (g c) 0) (λ c l. cond-le (gone c) _ _ (λ e. omega (arith, full c (l, not-true _ e)))))
+  total-whole g fit full =
+      let each = sum-le k (λ c. cond (gone c) bits 0) (λ c. cond (gone c) (g c) 0) (λ c l. cond-le (gone c) _ _ (λ e. omega (arith, full c (l, not-true _ e)))) in
+      omega (arith, total-all g fit, sum-each bits k gone)
 
   pub total-none : total (λ c. 0) ≡ 0
   unfolding total

@@ -1,4 +1,5 @@
 pub mod Walk
+pub mod Ends
 pub mod Read
 pub mod Compute
 pub mod Promise

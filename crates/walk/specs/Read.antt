@@ -4,32 +4,21 @@ use mathlib.Core.Bool.{true, cond, _&&_}
 use Prim.Native.Nat.{ℕ, _+_, _%_, _≤_, _<_}
 use lib.Dec.{eqb}
 use Rattle.table.specs.Desk.{Desk}
-use Rattle.encode.specs.Code.{Bits, sumOf, parity}
-use Rattle.walk.specs.Walk.{Order, Gone, Held, Run, done, step}
+use Rattle.code.specs.Code.{Bits, sumOf}
+use Rattle.walk.specs.Walk.{Order, Gone, Run, done, step}
 
 -- bit p of source b becomes v
 unfoldable pub put : Bits → ℕ → ℕ → ℕ → Bits
 put s b p v c q = cond (eqb b c && eqb p q) v (s c q)
 
 module _ (D : Desk) where
-  open Desk D using (k, bits, shift, present)
-
-  -- x are bits, and no source has any past its end
-  pub record Source (x : Bits) : Type 0 where
-    pub bit : (c p : ℕ) → x c p < 2
-    pub short : (c p : ℕ) → bits ≤ p → x c p ≡ 0
+  open Desk D using (k, shift, present)
 
   -- s holds the present sources of x, of each missing one the bits uncovered at progress g, and nothing else
   pub record Knows (x : Bits) (g : ℕ → ℕ) (s : Bits) : Type 0 where
     pub kept : (c p : ℕ) → c < k → present c ≡ true → s c p ≡ x c p
     pub below : (c p : ℕ) → Gone D c → p < g c → s c p ≡ x c p
     pub above : (c p : ℕ) → Gone D c → g c ≤ p → s c p ≡ 0
-
-  -- the parities at hand of r, and the present sources of s, come from the sources x
-  pub record Encodes (r s x : Bits) : Type 0 where
-    pub source : Source x
-    pub kept : (c p : ℕ) → c < k → present c ≡ true → s c p ≡ x c p
-    pub made : (a q : ℕ) → Held D a → r a q ≡ parity D x a q
 
   -- the bit read at a pair: the parity's bit, when all that is known is taken out
   abbrev pub read : Bits → Bits → (ℕ → ℕ) → ℕ → ℕ → ℕ

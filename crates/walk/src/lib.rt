@@ -6,13 +6,12 @@ ghost use mathlib.Core.List.{[]};
 ghost use Prim.Native.Nat.{_+_, _≤_, _<_};
 ghost use lib.ListN.{set};
 ghost use Rattle.bits.specs.Sums.{at};
-ghost use Rattle.table.specs.Limits.{maxK, maxLength};
-ghost use Rattle.table.specs.Desk.{sourceBits};
+ghost use Rattle.table.specs.Limits.{maxK, maxLength, maxBits, noughts};
 ghost use Rattle.table.specs.Table.{Within, deskOf};
-ghost use Rattle.table.specs.Promise.{Flag};
+ghost use Rattle.table.specs.Checks.{Flag};
 ghost use Rattle.walk.specs.Walk.{Fits, Whole, Next};
 ghost use Rattle.walk.specs.Compute.{placedOf, lowerOf, scan, sourceOf, parityOf, fullB, wholeB};
-ghost use Rattle.walk.specs.Promise.{noughts, Stepped, Walked, Finished};
+ghost use Rattle.walk.specs.Promise.{Stepped, Walked, Finished};
 
 // What next step gives: the pair, from 1, and the progress after it.
 pub struct StepAnswer {
@@ -71,7 +70,10 @@ fn lower(
     b: usize,
     x: Low,
 ) -> Low
-    requires { ⌜ Within s (now shifts) × Fits (deskOf s (now shifts)) (at (now g)) × (a < s .m) × (b < s .k) ⌝ }
+    requires { ⌜ Within s (now shifts) ⌝ }
+    requires { ⌜ Fits (deskOf s (now shifts)) (at (now g)) ⌝ }
+    requires { ⌜ a < s .m ⌝ }
+    requires { ⌜ b < s .k ⌝ }
     ensures { λ r. ⌜ (r .place, r .source) ≡ lowerOf (deskOf s (now (shifts .entry))) (at (now (g .entry))) a b (x .place, x .source) ⌝ }
 {
     if table::marked(s.marks, b) {
@@ -86,7 +88,9 @@ fn lower(
 
 // The source that is bare in parity a, or k or more.
 fn source_of(s: Shape, shifts: &[u8; Table::CELLS], g: &[u64; Table::SOURCES], a: usize) -> usize
-    requires { ⌜ Within s (now shifts) × Fits (deskOf s (now shifts)) (at (now g)) × (a < s .m) ⌝ }
+    requires { ⌜ Within s (now shifts) ⌝ }
+    requires { ⌜ Fits (deskOf s (now shifts)) (at (now g)) ⌝ }
+    requires { ⌜ a < s .m ⌝ }
     ensures { λ r. ⌜ r ≡ sourceOf (deskOf s (now (shifts .entry))) (at (now (g .entry))) a ⌝ }
 {
     if table::marked(s.marks, s.k + a) {
@@ -95,8 +99,11 @@ fn source_of(s: Shape, shifts: &[u8; Table::CELLS], g: &[u64; Table::SOURCES], a
     s.k
 }
 
+// So for a parity at hand: the source whose next bit stands alone lowest there, or k or more.
 fn scanned(s: Shape, shifts: &[u8; Table::CELLS], g: &[u64; Table::SOURCES], a: usize) -> usize
-    requires { ⌜ Within s (now shifts) × Fits (deskOf s (now shifts)) (at (now g)) × (a < s .m) ⌝ }
+    requires { ⌜ Within s (now shifts) ⌝ }
+    requires { ⌜ Fits (deskOf s (now shifts)) (at (now g)) ⌝ }
+    requires { ⌜ a < s .m ⌝ }
     ensures { λ r. ⌜ r ≡ scan (deskOf s (now (shifts .entry))) (at (now (g .entry))) a (s .k) .1 ⌝ }
 {
     let mut x = Low {
@@ -113,8 +120,10 @@ fn scanned(s: Shape, shifts: &[u8; Table::CELLS], g: &[u64; Table::SOURCES], a: 
 
 // The bare pair with the lowest parity.
 pub fn next_pair(s: Shape, shifts: &[u8; Table::CELLS], g: &[u64; Table::SOURCES]) -> Pair
-    requires { ⌜ Within s (now shifts) × Fits (deskOf s (now shifts)) (at (now g)) ⌝ }
-    ensures { λ r. ⌜ (r .parity ≡ parityOf (deskOf s (now (shifts .entry))) (at (now (g .entry)))) × (r .parity < s .m → r .source ≡ sourceOf (deskOf s (now (shifts .entry))) (at (now (g .entry))) (r .parity)) ⌝ }
+    requires { ⌜ Within s (now shifts) ⌝ }
+    requires { ⌜ Fits (deskOf s (now shifts)) (at (now g)) ⌝ }
+    ensures { λ r. ⌜ r .parity ≡ parityOf (deskOf s (now (shifts .entry))) (at (now (g .entry))) ⌝ }
+    ensures { λ r. ⌜ (r .parity < s .m → r .source ≡ sourceOf (deskOf s (now (shifts .entry))) (at (now (g .entry))) (r .parity)) ⌝ }
 {
     let mut a = 0;
     while a < s.m {
@@ -135,7 +144,8 @@ pub fn next_pair(s: Shape, shifts: &[u8; Table::CELLS], g: &[u64; Table::SOURCES
 
 // One more bit of source b.
 fn raised(mut g: [u64; Table::SOURCES], b: usize) -> [u64; Table::SOURCES]
-    requires { ⌜ (b < maxK) × (at g b ≤ sourceBits maxLength) ⌝ }
+    requires { ⌜ b < maxK ⌝ }
+    requires { ⌜ at g b ≤ maxBits ⌝ }
     ensures { λ r. ⌜ r ≡ set g b (at g b + 1) ⌝ }
 {
     g[b] += 1;
@@ -144,7 +154,8 @@ fn raised(mut g: [u64; Table::SOURCES], b: usize) -> [u64; Table::SOURCES]
 
 // The next step from progress g.
 fn advance(s: Shape, shifts: &[u8; Table::CELLS], g: [u64; Table::SOURCES]) -> StepAnswer
-    requires { ⌜ Within s (now shifts) × Fits (deskOf s (now shifts)) (at g) ⌝ }
+    requires { ⌜ Within s (now shifts) ⌝ }
+    requires { ⌜ Fits (deskOf s (now shifts)) (at g) ⌝ }
     ensures { λ r. ⌜ (r .number ≡ 0) × Next (deskOf s (now (shifts .entry))) g (r .parity) (r .source) (r .progress) ⌝ }
 {
     let p = next_pair(s, shifts, &g);
@@ -189,14 +200,14 @@ pub fn next_step(
 ) -> StepAnswer
     ensures { λ r. ⌜ Stepped k m l (now (table .entry)) marks progress (r .number) (r .parity) (r .source) (r .progress) ⌝ }
 {
-    let o = table::open_marked(k, m, l, table, marks);
+    let o = checks::open_marked(k, m, l, table, marks);
     if o.number != 0 {
         return no_step(o.number);
     }
     let s = o.shape;
     let t = o.table;
     let shifts = t.shifts;
-    let number = table::progress_number(s, &progress);
+    let number = checks::progress_number(s, &progress);
     if number != 0 {
         return no_step(number);
     }
@@ -205,7 +216,8 @@ pub fn next_step(
 
 // Whether every missing source is whole: no shift matters.
 pub fn is_whole(s: Shape, g: &[u64; Table::SOURCES]) -> bool
-    requires { ⌜ (s .k ≤ maxK) × (s .length ≤ maxLength) ⌝ }
+    requires { ⌜ s .k ≤ maxK ⌝ }
+    requires { ⌜ s .length ≤ maxLength ⌝ }
     ensures { λ r. ⌜ r ≡ wholeB (deskOf s []) (at (now (g .entry))) ⌝ }
 {
     let mut b = 0;
@@ -221,7 +233,9 @@ pub fn is_whole(s: Shape, g: &[u64; Table::SOURCES]) -> bool
 
 // Whether source b is present or at its end.
 fn is_full(s: Shape, g: &[u64; Table::SOURCES], b: usize) -> bool
-    requires { ⌜ (s .k ≤ maxK) × (s .length ≤ maxLength) × (b < s .k) ⌝ }
+    requires { ⌜ s .k ≤ maxK ⌝ }
+    requires { ⌜ s .length ≤ maxLength ⌝ }
+    requires { ⌜ b < s .k ⌝ }
     ensures { λ r. ⌜ r ≡ fullB (deskOf s []) (at (now (g .entry))) b ⌝ }
 {
     if table::marked(s.marks, b) {
@@ -232,7 +246,8 @@ fn is_full(s: Shape, g: &[u64; Table::SOURCES], b: usize) -> bool
 
 // The answer of a walk that ended at g after so many steps.
 fn ended(s: Shape, shifts: &[u8; Table::CELLS], count: u64, g: [u64; Table::SOURCES]) -> WalkAnswer
-    requires { ⌜ Within s (now shifts) × Fits (deskOf s (now shifts)) (at g) ⌝ }
+    requires { ⌜ Within s (now shifts) ⌝ }
+    requires { ⌜ Fits (deskOf s (now shifts)) (at g) ⌝ }
     ensures { λ r. ⌜ (r .number ≡ 0) × (r .count ≡ count) × Flag (Whole (deskOf s (now (shifts .entry))) (at g)) (r .whole) × (r .progress ≡ g) ⌝ }
 {
     if is_whole(s, &g) {
@@ -273,7 +288,7 @@ fn to_end(s: Shape, shifts: &[u8; Table::CELLS]) -> WalkAnswer
 pub fn walk(k: u64, m: u64, l: u64, table: &[u8], marks: u64) -> WalkAnswer
     ensures { λ r. ⌜ Walked k m l (now (table .entry)) marks (r .number) (r .count) (r .whole) (r .progress) ⌝ }
 {
-    let o = table::open_marked(k, m, l, table, marks);
+    let o = checks::open_marked(k, m, l, table, marks);
     if o.number != 0 {
         return WalkAnswer {
             number: o.number,

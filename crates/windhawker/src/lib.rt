@@ -1,9 +1,10 @@
 // The C interface: each export keeps the promise of the call that it passes on. Numbers come back as results, all else in slots.
 use table::Table;
-ghost use Rattle.table.specs.Promise.{FamilyWritten, Judged};
+ghost use Rattle.family.specs.Promise.{FamilyWritten, Judged};
 ghost use Rattle.encode.specs.Promise.{EncodedAll, EncodedOne, PacketMeasured, SurvivorsMeasured};
 ghost use Rattle.walk.specs.Promise.{Walked, Stepped};
-ghost use Rattle.rebuild.specs.Promise.{Rebuilt, Repaired};
+ghost use Rattle.rebuild.specs.Promise.{Rebuilt};
+ghost use Rattle.repair.specs.Promise.{Repaired};
 ghost use Rattle.look.specs.Promise.{LookedAt};
 ghost use Rattle.card.specs.Promise.{BlockTaken};
 
@@ -12,7 +13,7 @@ ghost use Rattle.card.specs.Promise.{BlockTaken};
 pub extern "C" fn whx_family_table(k: u64, m: u64, out: &mut [u8]) -> u64
     ensures { λ r. ⌜ FamilyWritten k m (now (out .entry)) r (now (out .exit)) ⌝ }
 {
-    table::house::family_table(k, m, out)
+    family::family_table(k, m, out)
 }
 
 // Whether differences grow down the table.
@@ -20,7 +21,7 @@ pub extern "C" fn whx_family_table(k: u64, m: u64, out: &mut [u8]) -> u64
 pub extern "C" fn whx_judge(k: u64, m: u64, table: &[u8], growing: &mut u64) -> u64
     ensures { λ r. ⌜ Judged k m (now (table .entry)) r (now (growing .exit)) ⌝ }
 {
-    let j = table::judge::judge(k, m, table);
+    let j = family::judge::judge(k, m, table);
     *growing = j.growing;
     j.number
 }
@@ -179,7 +180,7 @@ pub extern "C" fn whx_repair(
 ) -> u64
     ensures { λ r. ⌜ Repaired k m l (now (table .entry)) marks (now (packets .entry)) packet (now (out .entry)) r (now (out .exit)) ⌝ }
 {
-    rebuild::repair::repair(k, m, l, table, marks, packets, packet, out)
+    repair::repair(k, m, l, table, marks, packets, packet, out)
 }
 
 // Where one source stands for reading.

@@ -1,17 +1,18 @@
--- `card::block` meets its contract: a number that is not 0 stops it, and the copy comes last, of a part that is LEN bytes long. Assumes nothing.
-use mathlib.Core.Path.{refl, subst, _∙_}
+-- A number that is not 0 stops it, and the copy comes last, of a part that is LEN bytes long. Assumes nothing.
+use mathlib.Core.Path.{refl, _∙_}
 use Prim.Native.Nat.{_+_, _-_, _≤_}
 use native.Mathlib.Omega.{arith}
 use lib.ListN.{length, length-take, length-drop}
 use borrow.Author.Needs.{needs}
-use Rattle.table.specs.Checks.{Checked}
+use Rattle.table.proofs.CheckLaws.{zero-checked}
+use Rattle.table.proofs.AnswerLaws.{answer-refused, answer-done}
 use Rattle.card.specs.Block.{len, blockChecks}
 use Rattle.card.proofs.BlockLaws.{Formed, fitting, laid-over}
 use Rattle.card.proofs.block.Statement.{statement}
 use Rattle.card.proofs.block.Tie as tie
 
 -- past the test the block is formed, and fits
-good : (c : tie.Else1) → Formed (c .before .before .before .before .args .block .now) × (len (c .before .before .before .before .args .block .now) ≤ length (c .before .before .before .before .args .dest .now))
+good : (c : tie.Else1) → let s = c .before .before .before .before .args in Formed (s .block .now) × (len (s .block .now) ≤ length (s .dest .now))
 good c =
     let s = c .before .before .before .before .args in
     fitting (s .block .now) (length (s .dest .now)) (c .before .block-number .ensures) (c .if1 .left)
@@ -20,12 +21,7 @@ block-number-requires : tie.Need-block-number-requires
 block-number-requires c κs = search needs
 
 returns : tie.Need-returns
-returns c =
-    record {
-      numbered = c .before .block-number .ensures;
-      refused = λ _. (refl, refl);
-      done = λ z. absurd (c .if1 .taken z);
-    }
+returns c = answer-refused _ _ _ (c .before .block-number .ensures) (c .if1 .taken) refl (refl, refl)
 
 information-length-requires : tie.Need-information-length-requires
 information-length-requires c κs = omega (arith, good c .0 .exact)
@@ -53,11 +49,9 @@ returns-2 c =
     let n = c .before .before .before .before .before .information-length in
     let at = c .before .before .before .before .before .before in
     let s = at .before .before .before .before .args in
-    record {
-      numbered = subst (Checked (blockChecks (s .block .now) (length (s .dest .now)))) (at .if1 .left) (at .before .block-number .ensures);
-      refused = λ m. absurd (m refl);
-      done = λ _. (n .ensures .0, c .before .before .copy-front .ensures ∙ laid-over (s .block .now) (s .dest .now) (3 + n .result - 3) (good at .0 .exact) (omega arith));
-    }
+    let checks = blockChecks (s .block .now) (length (s .dest .now)) in
+    answer-done checks 0 (zero-checked checks _ (at .if1 .left) (at .before .block-number .ensures)) refl
+    (n .ensures .0, c .before .before .copy-front .ensures ∙ laid-over (s .block .now) (s .dest .now) (3 + n .result - 3) (good at .0 .exact) (omega arith))
 
 pub block-spec : {M : Type 1} → statement M
 block-spec =

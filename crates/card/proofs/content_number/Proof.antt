@@ -1,4 +1,4 @@
--- `card::content_number` meets its contract: each test is its check, and the numbers that the match names are the PCBs that are taken. Assumes nothing.
+-- The sum is looked at first, then NAD and PCB, and the PCBs that the match names are those that are taken. Assumes nothing.
 use mathlib.Core.Path.{refl, sym, _∙_}
 use mathlib.Core.Logic.{inl, inr}
 use borrow.Author.Needs.{needs}

@@ -1,4 +1,4 @@
--- `card::framing_number` meets its contract: each test is its check. Assumes nothing.
+-- LEN is looked at only where there are 4 bytes, and compared with the one that is reserved. Assumes nothing.
 use mathlib.Core.Path.{refl, sym, _∙_}
 use mathlib.Core.Logic.{inl, inr}
 use native.Mathlib.Omega.{arith}

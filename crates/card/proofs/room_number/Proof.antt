@@ -1,4 +1,4 @@
--- `card::room_number` meets its contract: its test is the check. Assumes nothing.
+-- The bytes are more than the room, and refused, or they fit. Assumes nothing.
 use mathlib.Core.Path.{refl}
 use mathlib.Core.Logic.{inl, inr}
 use native.Mathlib.Omega.{arith}

@@ -1,5 +1,5 @@
--- `class_sheet::print_refusal` meets its contract: what was printed lies within the buffer. Assumes nothing.
-use Rattle.sheet.specs.Text.{refusal}
+-- What was printed lies within the buffer, so that many of its bytes can be shown.
+use Rattle.sheet.specs.Printing.{refusal}
 use Rattle.sheet.proofs.Writings.{printed-fits}
 use borrow.Author.Needs.{needs}
 use Rattle.class_sheet.proofs.print_refusal.Statement.{statement}

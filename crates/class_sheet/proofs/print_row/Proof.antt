@@ -1,4 +1,4 @@
--- `class_sheet::print_row` meets its contract: what was printed lies within the buffer. Assumes nothing.
+-- What was printed lies within the buffer, so that many of its bytes can be shown.
 use Rattle.sheet.proofs.Rows.{row-fits}
 use borrow.Author.Needs.{needs}
 use Rattle.class_sheet.proofs.print_row.Statement.{statement}

@@ -1,16 +1,17 @@
--- `class_sheet::print_rows` meets its contract: the turns are counted, and the buffer keeps its length. Assumes nothing.
+-- The turns are counted, and the buffer keeps its length.
 use mathlib.Core.Path.{_≡_}
-use Prim.Native.Nat.{_-_, _≤_}
+use Prim.Native.Nat.{_+_, _-_, _^_, _≤_}
 use lib.ListN.{length}
 use borrow.Author.Needs.{needs}
+use Rattle.table.specs.Limits.{maxK, maxM}
 use Rattle.class_sheet.proofs.print_rows.Statement.{statement}
 use Rattle.class_sheet.proofs.print_rows.Tie as tie
 
 abbrev Inv-loop : tie.InvT-loop
-Inv-loop line out₀ c₀ counter₀ out c counter = (counter ≤ 65536) × (length out ≡ length out₀)
+Inv-loop line out₀ c₀ counter₀ out c counter = (counter ≤ 2 ^ (maxK + maxM)) × (length out ≡ length out₀)
 
 abbrev μ-loop : tie.MeasureT-loop
-μ-loop line out₀ c₀ counter₀ out c counter = 65536 - counter
+μ-loop line out₀ c₀ counter₀ out c counter = 2 ^ (maxK + maxM) - counter
 
 first-requires : tie.Need-first-requires Inv-loop μ-loop
 first-requires c κs = search needs

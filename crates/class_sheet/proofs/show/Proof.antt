@@ -1,4 +1,4 @@
--- `class_sheet::show` meets its contract: the part is n bytes long. Assumes nothing.
+-- The part is n bytes long, since the buffer has as many.
 use mathlib.Core.Path.{sym}
 use lib.Seq.{length-take-le}
 use borrow.Author.Needs.{needs}

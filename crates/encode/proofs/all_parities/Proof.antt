@@ -1,15 +1,10 @@
--- `encode::all_parities` meets its contract: the lengths, and the parities. Assumes nothing.
-use mathlib.Core.Path.{_≡_, refl}
-use lib.ListN.{length}
-use Prim.Native.Nat.{_+_, _*_}
-use lib.Dec.{leb}
-use Rattle.table.specs.Desk.{placeOf}
+-- The parities are written only where both lengths are exact. Assumes nothing.
+use mathlib.Core.Path.{refl}
 use Rattle.table.specs.Table.{deskOf}
 use Rattle.table.specs.Checks.{Checks, Checked}
-use Rattle.table.proofs.CheckLaws.{zero-checked}
+use Rattle.table.proofs.CheckLaws.{zero-checked, lengths-are, lengths-exact}
+use Rattle.table.proofs.AnswerLaws.{answer-refused, answer-done}
 use Rattle.encode.specs.Stages.{allChecks}
-use Rattle.encode.proofs.StageLaws.{lengths-are, lengths-exact}
-use native.Mathlib.Omega.{arith}
 use borrow.Author.Needs.{needs}
 use Rattle.encode.proofs.all_parities.Statement.{statement}
 use Rattle.encode.proofs.all_parities.Tie as tie
@@ -26,32 +21,27 @@ lengths-number-requires c κs = search needs
 same-length : tie.Need-same-length
 same-length c = search needs
 
--- the checks, at the lengths that were computed
-abbrev allOf : tie.After-lengths-number → Checks
-allOf c = let s = c .before .before .before .before .before .before .args in allChecks (deskOf (s .s) (s .shifts .now)) (s .sources .now) (s .out .now)
+abbrev checks : tie.Start → Checks
+checks s = allChecks (deskOf (s .args .s) (s .args .shifts .now)) (s .args .sources .now) (s .args .out .now)
 
-checked : (c : tie.After-lengths-number) → Checked (allOf c) (c .lengths-number .result)
+-- the lengths that were compared are those of the desk
+checked : (c : tie.After-lengths-number) → Checked (checks (c .before .before .before .before .before .before)) (c .lengths-number .result)
 checked c =
     let s = c .before .before .before .before .before .before .args in
-    lengths-are _ (s .s .k * s .s .length) _ (placeOf (deskOf (s .s) (s .shifts .now)) (leb (s .s .k)) (s .s .k + s .s .m)) (s .sources .now) (s .out .now) (c .lengths-number .result) (c .before .before .sources-bytes .ensures) (c .before .before .before .parities-bytes .ensures) (c .lengths-number .ensures)
+    lengths-are _ _ _ _ (s .sources .now) (s .out .now) _ (c .before .before .sources-bytes .ensures .0) (c .before .before .before .parities-bytes .ensures) (c .lengths-number .ensures)
 
-exactly : (c : tie.Else1) → let s = c .before .before .before .before .before .before .before .args in (length (s .sources .now) ≡ s .s .k * s .s .length) × (length (s .out .now) ≡ placeOf (deskOf (s .s) (s .shifts .now)) (leb (s .s .k)) (s .s .k + s .s .m))
-exactly c =
-    let s = c .before .before .before .before .before .before .before .args in
-    lengths-exact (s .s .k * s .s .length) (placeOf (deskOf (s .s) (s .shifts .now)) (leb (s .s .k)) (s .s .k + s .s .m)) (s .sources .now) (s .out .now) (zero-checked (allOf (c .before)) (c .before .lengths-number .result) (c .if1 .left) (checked (c .before)))
+-- past the test no check refuses
+passed : (c : tie.Else1) → Checked (checks (c .before .before .before .before .before .before .before)) 0
+passed c = zero-checked (checks (c .before .before .before .before .before .before .before)) _ (c .if1 .left) (checked (c .before))
 
 returns : tie.Need-returns
-returns c =
-    let n = c .before in
-    let s = n .before .before .before .before .before .before .args in
-    record { numbered = checked n; refused = λ _. refl; done = λ z. absurd (c .if1 .taken z) }
+returns c = answer-refused _ _ _ (checked (c .before)) (c .if1 .taken) refl refl
 
 encode-parities-requires : tie.Need-encode-parities-requires
 encode-parities-requires c κs =
-    let n = c .before .before in
-    let s = n .before .before .before .before .before .before in
-    let e = exactly (c .before) in
-    (s .pre, e .0, e .1)
+    let s = c .before .before .before .before .before .before .before .before in
+    let e = lengths-exact _ _ (s .args .sources .now) (s .args .out .now) (passed (c .before)) in
+    (s .pre, (e .0, e .1))
 
 same-length-2 : tie.Need-same-length-2
 same-length-2 c = search needs
@@ -59,8 +49,7 @@ same-length-2 c = search needs
 returns-2 : tie.Need-returns-2
 returns-2 c =
     let w = c .before .before in
-    let e = w .before .before in
-    record { numbered = zero-checked (allOf (e .before)) (e .before .lengths-number .result) (e .if1 .left) (checked (e .before)); refused = λ h. absurd (h refl); done = λ _. w .encode-parities .ensures }
+    answer-done _ 0 (passed (w .before .before)) refl (w .encode-parities .ensures)
 
 pub all-parities-spec : {M : Type 1} → statement M
 all-parities-spec =

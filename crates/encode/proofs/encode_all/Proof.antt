@@ -1,5 +1,11 @@
--- `encode::encode_all` meets its contract: the shape, and what is left. Assumes nothing.
-use Rattle.encode.proofs.StageLaws.{all-refused, all-given}
+-- Where the shape is refused nothing is written; else what is left decides, over its desk. Assumes nothing.
+use mathlib.Core.Path.{_≡_, refl}
+use Rattle.table.specs.Desk.{desk}
+use Rattle.table.specs.Checks.{shapeChecks}
+use Rattle.table.proofs.CheckLaws.{numbered-by}
+use Rattle.checks.proofs.OpenLaws.{opened-stops, opened-goes}
+use Rattle.code.specs.Code.{paritiesOf}
+use Rattle.encode.specs.Stages.{allChecks}
 use borrow.Author.Needs.{needs}
 use Rattle.encode.proofs.encode_all.Statement.{statement}
 use Rattle.encode.proofs.encode_all.Tie as tie
@@ -11,7 +17,7 @@ returns : tie.Need-returns
 returns c =
     let o = c .before .before in
     let s = o .before .before .before .before .args in
-    all-refused (s .k) (s .m) (s .l) (s .table .now) (o .open-shape .result) (o .open-shape .ensures) (s .sources .now) (s .out .now) (c .if1 .taken)
+    opened-stops (o .open-shape .ensures) (allChecks (desk (s .k) (s .m) (s .l) (s .table .now) 0) (s .sources .now) (s .out .now)) _ (c .if1 .taken) refl refl
 
 all-parities-requires : tie.Need-all-parities-requires
 all-parities-requires c κs = search needs
@@ -24,7 +30,11 @@ returns-2 c =
     let e = c .before .before .before .before .before .before .before in
     let o = e .before .before in
     let s = o .before .before .before .before .args in
-    all-given (s .k) (s .m) (s .l) (s .table .now) (o .open-shape .result) (o .open-shape .ensures) (s .sources .now) (s .out .now) (c .before .before .all-parities .result) _ (e .if1 .left) (c .before .before .all-parities .ensures)
+    let cs = shapeChecks (s .k) (s .m) (s .l) (s .table .now) in
+    let g = c .before .before .all-parities in
+    let after = g .last .1 .1 .1 .0 in
+    opened-goes (o .open-shape .ensures) (e .if1 .left) (numbered-by cs refl)
+    (λ _ D. allChecks D (s .sources .now) (s .out .now)) (λ D. after ≡ s .out .now) (λ D. after ≡ paritiesOf D (s .sources .now)) (g .result) (g .ensures)
 
 pub encode-all-spec : {M : Type 1} → statement M
 encode-all-spec =

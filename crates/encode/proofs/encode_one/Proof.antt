@@ -1,5 +1,12 @@
--- `encode::encode_one` meets its contract: the shape, and what is left. Assumes nothing.
-use Rattle.encode.proofs.StageLaws.{one-refused, one-given}
+-- Where the shape is refused nothing is written; else what is left decides, over its desk. Assumes nothing.
+use mathlib.Core.Path.{_≡_, refl}
+use Prim.Native.Nat.{_-_}
+use Rattle.table.specs.Desk.{desk}
+use Rattle.table.specs.Checks.{shapeChecks}
+use Rattle.table.proofs.CheckLaws.{numbered-by}
+use Rattle.checks.proofs.OpenLaws.{opened-stops, opened-goes}
+use Rattle.code.specs.Code.{packetOf}
+use Rattle.encode.specs.Stages.{oneChecks}
 use borrow.Author.Needs.{needs}
 use Rattle.encode.proofs.encode_one.Statement.{statement}
 use Rattle.encode.proofs.encode_one.Tie as tie
@@ -11,7 +18,7 @@ returns : tie.Need-returns
 returns c =
     let o = c .before .before in
     let s = o .before .before .before .before .args in
-    one-refused (s .k) (s .m) (s .l) (s .table .now) (o .open-shape .result) (o .open-shape .ensures) (s .sources .now) (s .out .now) (s .packet) (c .if1 .taken)
+    opened-stops (o .open-shape .ensures) (oneChecks (desk (s .k) (s .m) (s .l) (s .table .now) 0) (s .packet) (s .sources .now) (s .out .now)) _ (c .if1 .taken) refl refl
 
 one-packet-requires : tie.Need-one-packet-requires
 one-packet-requires c κs = search needs
@@ -24,7 +31,11 @@ returns-2 c =
     let e = c .before .before .before .before .before .before .before in
     let o = e .before .before in
     let s = o .before .before .before .before .args in
-    one-given (s .k) (s .m) (s .l) (s .table .now) (o .open-shape .result) (o .open-shape .ensures) (s .sources .now) (s .out .now) (s .packet) (c .before .before .one-packet .result) _ (e .if1 .left) (c .before .before .one-packet .ensures)
+    let cs = shapeChecks (s .k) (s .m) (s .l) (s .table .now) in
+    let g = c .before .before .one-packet in
+    let after = g .last .1 .1 .1 .1 .0 in
+    opened-goes (o .open-shape .ensures) (e .if1 .left) (numbered-by cs refl)
+    (λ _ D. oneChecks D (s .packet) (s .sources .now) (s .out .now)) (λ D. after ≡ s .out .now) (λ D. after ≡ packetOf D (s .sources .now) (s .packet - 1)) (g .result) (g .ensures)
 
 pub encode-one-spec : {M : Type 1} → statement M
 encode-one-spec =

@@ -1,9 +1,10 @@
--- `encode::one_length` meets its contract. Assumes nothing.
-use mathlib.Core.Path.{refl, sym, _∙_, subst}
+-- Only a packet's number has a length. Assumes nothing.
+use mathlib.Core.Path.{refl}
 use Prim.Native.Nat.{_+_, _≤_}
 use native.Mathlib.Omega.{arith}
 use Rattle.table.specs.Checks.{Checked, numberChecks}
 use Rattle.table.proofs.CheckLaws.{one-of, zero-checked}
+use Rattle.table.proofs.AnswerLaws.{answer-refused, answer-done}
 use borrow.Author.Needs.{needs}
 use Rattle.encode.proofs.one_length.Statement.{statement}
 use Rattle.encode.proofs.one_length.Tie as tie
@@ -30,11 +31,7 @@ returns c =
     let w = c .before .before in
     let s = w .before .before .args in
     let e = c .no-length .ensures in
-    record {
-      numbered = subst (Checked (numberChecks (s .s .k + s .s .m) (s .packet))) (sym (e .0)) (w .one-of .ensures);
-      refused = λ _. e .1;
-      done = λ z. absurd (c .before .if1 .taken (sym (e .0) ∙ z));
-    }
+    answer-refused (numberChecks (s .s .k + s .s .m) (s .packet)) (w .one-of .result) _ (w .one-of .ensures) (c .before .if1 .taken) (e .0) (e .1)
 
 sub-packet-bytes : tie.Need-sub-packet-bytes
 sub-packet-bytes c = named c .1
@@ -43,7 +40,9 @@ packet-bytes-requires : tie.Need-packet-bytes-requires
 packet-bytes-requires c κs = (c .before .before .before .pre, omega (arith, named c .1, named c .2))
 
 returns-2 : tie.Need-returns-2
-returns-2 c = record { numbered = named (c .before) .0; refused = λ h. absurd (h refl); done = λ _. c .packet-bytes .ensures .0 }
+returns-2 c =
+    let s = c .before .before .before .before .args in
+    answer-done (numberChecks (s .s .k + s .s .m) (s .packet)) 0 (named (c .before) .0) refl (c .packet-bytes .ensures .0)
 
 pub one-length-spec : {M : Type 1} → statement M
 one-length-spec =

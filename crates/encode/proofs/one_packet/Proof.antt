@@ -1,10 +1,11 @@
--- `encode::one_packet` meets its contract: the packet's number, and what is left. Assumes nothing.
+-- Only a packet's number goes on to the lengths, which decide. Assumes nothing.
 use mathlib.Core.Path.{refl}
 use Prim.Native.Nat.{_+_, _-_, _≤_}
 use native.Mathlib.Omega.{arith}
 use Rattle.table.specs.Table.{deskOf}
-use Rattle.table.specs.Checks.{Checked, numberChecks}
-use Rattle.table.proofs.CheckLaws.{stops, goes, one-of, zero-checked}
+use Rattle.table.specs.Checks.{Checks, Checked, numberChecks}
+use Rattle.table.proofs.CheckLaws.{numbered-by, one-of, zero-checked}
+use Rattle.table.proofs.AnswerLaws.{answer-stops, answer-goes}
 use Rattle.encode.specs.Stages.{lendChecks}
 use borrow.Author.Needs.{needs}
 use Rattle.encode.proofs.one_packet.Statement.{statement}
@@ -16,22 +17,24 @@ add-one-of c = search needs
 one-of-requires : tie.Need-one-of-requires
 one-of-requires c κs = search needs
 
+abbrev number : tie.Start → Checks
+number s = numberChecks (s .args .s .k + s .args .s .m) (s .args .packet)
+
+abbrev lent : tie.Start → Checks
+lent s = lendChecks (deskOf (s .args .s) (s .args .shifts .now)) (s .args .packet - 1) (s .args .sources .now) (s .args .out .now)
+
 -- past the first test the number is a packet's
-named : (c : tie.Else1) → let s = c .before .before .before .before .before .args in Checked (numberChecks (s .s .k + s .s .m) (s .packet)) 0 × (1 ≤ s .packet) × (s .packet ≤ s .s .k + s .s .m)
+named : (c : tie.Else1) → let s = c .before .before .before .before .before in Checked (number s) 0 × (1 ≤ s .args .packet) × (s .args .packet ≤ s .args .s .k + s .args .s .m)
 named c =
-    let s = c .before .before .before .before .before .args in
-    let z = zero-checked (numberChecks (s .s .k + s .s .m) (s .packet)) (c .before .one-of .result) (c .if1 .left) (c .before .one-of .ensures) in
-    let n = one-of (s .s .k + s .s .m) (s .packet) z in
+    let s = c .before .before .before .before .before in
+    let z = zero-checked (number s) (c .before .one-of .result) (c .if1 .left) (c .before .one-of .ensures) in
+    let n = one-of (s .args .s .k + s .args .s .m) (s .args .packet) z in
     (z, n .0, n .1)
 
 returns : tie.Need-returns
 returns c =
-    let s = c .before .before .before .before .before .args in
-    record {
-      numbered = stops (numberChecks (s .s .k + s .s .m) (s .packet)) (lendChecks (deskOf (s .s) (s .shifts .now)) (s .packet - 1) (s .sources .now) (s .out .now)) (c .before .one-of .result) (c .before .one-of .ensures) (c .if1 .taken);
-      refused = λ _. refl;
-      done = λ z. absurd (c .if1 .taken z);
-    }
+    let s = c .before .before .before .before .before in
+    answer-stops (number s) (lent s) (c .before .one-of .result) _ (c .before .one-of .ensures) (c .if1 .taken) refl refl
 
 sub-packet-into : tie.Need-sub-packet-into
 sub-packet-into c = named c .1
@@ -48,13 +51,8 @@ returns-2 : tie.Need-returns-2
 returns-2 c =
     let w = c .before .before in
     let e = w .before .before in
-    let s = e .before .before .before .before .before .args in
-    let g = w .packet-into .ensures in
-    record {
-      numbered = goes (numberChecks (s .s .k + s .s .m) (s .packet)) (lendChecks (deskOf (s .s) (s .shifts .now)) (s .packet - 1) (s .sources .now) (s .out .now)) (w .packet-into .result) (omega arith, tt) (named e .0) (g .numbered);
-      refused = g .refused;
-      done = g .done;
-    }
+    let s = e .before .before .before .before .before in
+    answer-goes (number s) (lent s) (w .packet-into .result) (numbered-by (number s) refl) (named e .0) (w .packet-into .ensures)
 
 pub one-packet-spec : {M : Type 1} → statement M
 one-packet-spec =

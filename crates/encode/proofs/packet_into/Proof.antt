@@ -1,14 +1,10 @@
--- `encode::packet_into` meets its contract: the lengths, and the packet. Assumes nothing.
-use mathlib.Core.Path.{_≡_, refl}
-use lib.ListN.{length}
-use Prim.Native.Nat.{_+_, _*_}
-use Rattle.table.specs.Desk.{packetBytes}
+-- The packet is written only where both lengths are exact. Assumes nothing.
+use mathlib.Core.Path.{refl}
 use Rattle.table.specs.Table.{deskOf}
 use Rattle.table.specs.Checks.{Checks, Checked}
-use Rattle.table.proofs.CheckLaws.{zero-checked}
+use Rattle.table.proofs.CheckLaws.{zero-checked, lengths-are, lengths-exact}
+use Rattle.table.proofs.AnswerLaws.{answer-refused, answer-done}
 use Rattle.encode.specs.Stages.{lendChecks}
-use Rattle.encode.proofs.StageLaws.{lengths-are, lengths-exact}
-use native.Mathlib.Omega.{arith}
 use borrow.Author.Needs.{needs}
 use Rattle.encode.proofs.packet_into.Statement.{statement}
 use Rattle.encode.proofs.packet_into.Tie as tie
@@ -25,28 +21,27 @@ lengths-number-requires c κs = search needs
 same-length : tie.Need-same-length
 same-length c = search needs
 
--- the checks, at the lengths that were computed
-abbrev lendOf : tie.After-lengths-number → Checks
-lendOf c = let s = c .before .before .before .before .before .before .args in lendChecks (deskOf (s .s) (s .shifts .now)) (s .i) (s .sources .now) (s .out .now)
+abbrev checks : tie.Start → Checks
+checks s = lendChecks (deskOf (s .args .s) (s .args .shifts .now)) (s .args .i) (s .args .sources .now) (s .args .out .now)
 
-checked : (c : tie.After-lengths-number) → Checked (lendOf c) (c .lengths-number .result)
+-- the lengths that were compared are those of the desk
+checked : (c : tie.After-lengths-number) → Checked (checks (c .before .before .before .before .before .before)) (c .lengths-number .result)
 checked c =
     let s = c .before .before .before .before .before .before .args in
-    lengths-are _ (s .s .k * s .s .length) _ (packetBytes (deskOf (s .s) (s .shifts .now)) (s .i)) (s .sources .now) (s .out .now) (c .lengths-number .result) (c .before .before .sources-bytes .ensures) (c .before .before .before .packet-bytes .ensures .0) (c .lengths-number .ensures)
+    lengths-are _ _ _ _ (s .sources .now) (s .out .now) _ (c .before .before .sources-bytes .ensures .0) (c .before .before .before .packet-bytes .ensures .0) (c .lengths-number .ensures)
 
-exactly : (c : tie.Else1) → let s = c .before .before .before .before .before .before .before .args in (length (s .sources .now) ≡ s .s .k * s .s .length) × (length (s .out .now) ≡ packetBytes (deskOf (s .s) (s .shifts .now)) (s .i))
-exactly c =
-    let s = c .before .before .before .before .before .before .before .args in
-    lengths-exact (s .s .k * s .s .length) (packetBytes (deskOf (s .s) (s .shifts .now)) (s .i)) (s .sources .now) (s .out .now) (zero-checked (lendOf (c .before)) (c .before .lengths-number .result) (c .if1 .left) (checked (c .before)))
+-- past the test no check refuses
+passed : (c : tie.Else1) → Checked (checks (c .before .before .before .before .before .before .before)) 0
+passed c = zero-checked (checks (c .before .before .before .before .before .before .before)) _ (c .if1 .left) (checked (c .before))
 
 returns : tie.Need-returns
-returns c = record { numbered = checked (c .before); refused = λ _. refl; done = λ z. absurd (c .if1 .taken z) }
+returns c = answer-refused _ _ _ (checked (c .before)) (c .if1 .taken) refl refl
 
 encode-packet-requires : tie.Need-encode-packet-requires
 encode-packet-requires c κs =
     let s = c .before .before .before .before .before .before .before .before in
-    let e = exactly (c .before) in
-    (s .pre .0, s .pre .1, e .0, e .1)
+    let e = lengths-exact _ _ (s .args .sources .now) (s .args .out .now) (passed (c .before)) in
+    (s .pre .0, (s .pre .1, (e .0, e .1)))
 
 same-length-2 : tie.Need-same-length-2
 same-length-2 c = search needs
@@ -54,8 +49,7 @@ same-length-2 c = search needs
 returns-2 : tie.Need-returns-2
 returns-2 c =
     let w = c .before .before in
-    let e = w .before .before in
-    record { numbered = zero-checked (lendOf (e .before)) (e .before .lengths-number .result) (e .if1 .left) (checked (e .before)); refused = λ h. absurd (h refl); done = λ _. w .encode-packet .ensures }
+    answer-done _ 0 (passed (w .before .before)) refl (w .encode-packet .ensures)
 
 pub packet-into-spec : {M : Type 1} → statement M
 packet-into-spec =

@@ -1,5 +1,10 @@
--- `encode::packet_length` meets its contract: the shape, and what is left. Assumes nothing.
-use Rattle.encode.proofs.StageLaws.{length-refused, length-given}
+-- Where the shape is refused there is no length; else the packet's number decides, over its desk. Assumes nothing.
+use mathlib.Core.Path.{_≡_, refl}
+use Prim.Native.Nat.{_+_, _-_}
+use Rattle.table.specs.Desk.{packetBytes}
+use Rattle.table.specs.Checks.{shapeChecks, numberChecks}
+use Rattle.table.proofs.CheckLaws.{numbered-by}
+use Rattle.checks.proofs.OpenLaws.{opened-stops, opened-goes}
 use borrow.Author.Needs.{needs}
 use Rattle.encode.proofs.packet_length.Statement.{statement}
 use Rattle.encode.proofs.packet_length.Tie as tie
@@ -14,7 +19,7 @@ returns : tie.Need-returns
 returns c =
     let o = c .before .before .before in
     let s = o .before .before .args in
-    length-refused (s .k) (s .m) (s .l) (s .table .now) (o .open-shape .result) (o .open-shape .ensures) (s .packet) (c .no-length .result .number) (c .no-length .result .length) (c .before .if1 .taken) (c .no-length .ensures .0) (c .no-length .ensures .1)
+    opened-stops (o .open-shape .ensures) (numberChecks (s .k + s .m) (s .packet)) _ (c .before .if1 .taken) (c .no-length .ensures .0) (c .no-length .ensures .1)
 
 one-length-requires : tie.Need-one-length-requires
 one-length-requires c κs = search needs
@@ -24,7 +29,10 @@ returns-2 c =
     let e = c .before .before .before .before in
     let o = e .before .before in
     let s = o .before .before .args in
-    length-given (s .k) (s .m) (s .l) (s .table .now) (o .open-shape .result) (o .open-shape .ensures) (s .packet) (c .one-length .result .number) (c .one-length .result .length) (e .if1 .left) (c .one-length .ensures)
+    let cs = shapeChecks (s .k) (s .m) (s .l) (s .table .now) in
+    let g = c .one-length in
+    opened-goes (o .open-shape .ensures) (e .if1 .left) (numbered-by cs refl) (λ _ D. numberChecks (D .k + D .m) (s .packet))
+    (λ D. g .result .length ≡ 0) (λ D. g .result .length ≡ packetBytes D (s .packet - 1)) (g .result .number) (g .ensures)
 
 pub packet-length-spec : {M : Type 1} → statement M
 packet-length-spec =

@@ -1,8 +1,9 @@
--- `encode::survivors_length` meets its contract: the shape, and the packets from mark to mark. Assumes nothing.
-use mathlib.Core.Path.{refl, sym, _∙_, subst}
-use Rattle.table.specs.Checks.{Checked, markedChecks}
-use Rattle.table.proofs.OpenLaws.{opened-below}
-use Rattle.encode.proofs.StageLaws.{survivors-measured}
+-- Where the shape or the marks are refused there is no length; else it is that of the packets at hand. Assumes nothing.
+use mathlib.Core.Path.{_≡_, refl}
+use Rattle.table.specs.Desk.{survivorsBytes}
+use Rattle.table.specs.Checks.{markedChecks}
+use Rattle.table.proofs.AnswerLaws.{answer-refused, answer-done}
+use Rattle.checks.proofs.OpenLaws.{opened-passes, at-desk}
 use borrow.Author.Needs.{needs}
 use Rattle.encode.proofs.survivors_length.Statement.{statement}
 use Rattle.encode.proofs.survivors_length.Tie as tie
@@ -18,25 +19,19 @@ returns c =
     let o = c .before .before .before in
     let s = o .before .before .args in
     let e = c .no-length .ensures in
-    record {
-      numbered = subst (Checked (markedChecks (s .k) (s .m) (s .l) (s .table .now) (s .marks))) (sym (e .0)) (o .open-marked .ensures .numbered);
-      refused = λ _. e .1;
-      done = λ z. absurd (c .before .if1 .taken (sym (e .0) ∙ z));
-    }
+    answer-refused (markedChecks (s .k) (s .m) (s .l) (s .table .now) (s .marks)) (o .open-marked .result .number) _ (o .open-marked .ensures .numbered) (c .before .if1 .taken) (e .0) (e .1)
 
 survivors-bytes-requires : tie.Need-survivors-bytes-requires
-survivors-bytes-requires c κs =
-    let e = c .before .before .before in
-    let o = e .before .before in
-    let s = o .before .before .args in
-    (o .open-marked .ensures .within, opened-below (s .k) (s .m) (s .l) (s .table .now) (s .marks) (o .open-marked .result) (o .open-marked .ensures) (e .if1 .left))
+survivors-bytes-requires c κs = search needs
 
 returns-2 : tie.Need-returns-2
 returns-2 c =
     let e = c .before .before .before .before in
     let o = e .before .before in
     let s = o .before .before .args in
-    survivors-measured (s .k) (s .m) (s .l) (s .table .now) (s .marks) (o .open-marked .result) (o .open-marked .ensures) (e .if1 .left) (c .survivors-bytes .result) (c .survivors-bytes .ensures)
+    let cs = markedChecks (s .k) (s .m) (s .l) (s .table .now) (s .marks) in
+    answer-done cs 0 (opened-passes (o .open-marked .ensures) (e .if1 .left)) refl
+    (at-desk (o .open-marked .ensures) (e .if1 .left) (λ _ D. c .survivors-bytes .result ≡ survivorsBytes D) (c .survivors-bytes .ensures))
 
 pub survivors-length-spec : {M : Type 1} → statement M
 survivors-length-spec =

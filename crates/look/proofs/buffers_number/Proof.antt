@@ -1,4 +1,4 @@
--- `look::buffers_number` meets its contract: each length is compared with what the packets and the sources take. Assumes nothing.
+-- Each length is compared with what the packets and the sources take. Assumes nothing.
 use mathlib.Core.Path.{refl, sym, _∙_}
 use mathlib.Core.Logic.{inl, inr}
 use borrow.Author.Needs.{needs}
@@ -17,12 +17,12 @@ sources-bytes-requires c κs = search needs
 returns-2 : tie.Need-returns-2
 returns-2 c =
     let e = c .before .before in
-    inr ((λ n. n (e .if1 .left ∙ e .before .survivors-bytes .ensures)), inl ((λ e. c .if2 .taken (e ∙ sym (c .before .sources-bytes .ensures))), refl))
+    inr ((λ n. n (e .if1 .left ∙ e .before .survivors-bytes .ensures)), inl ((λ e. c .if2 .taken (e ∙ sym (c .before .sources-bytes .ensures .0))), refl))
 
 returns-3 : tie.Need-returns-3
 returns-3 c =
     let e = c .before .before in
-    inr ((λ n. n (e .if1 .left ∙ e .before .survivors-bytes .ensures)), inr ((λ n. n (c .if2 .left ∙ c .before .sources-bytes .ensures)), refl))
+    inr ((λ n. n (e .if1 .left ∙ e .before .survivors-bytes .ensures)), inr ((λ n. n (c .if2 .left ∙ c .before .sources-bytes .ensures .0)), refl))
 
 pub buffers-number-spec : {M : Type 1} → statement M
 buffers-number-spec =

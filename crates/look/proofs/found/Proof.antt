@@ -1,32 +1,31 @@
--- `look::found` meets its contract: the source's number and the marks, the buffers, and the place. Assumes nothing.
-use mathlib.Core.Path.{_≡_, sym, _∙_, subst}
-use Prim.Native.Nat.{_+_, _/_, _^_, _≤_}
+-- The number and the marks are asked first, then the buffers; past both the source has a place. Assumes nothing.
+use mathlib.Core.Path.{refl}
+use Prim.Native.Nat.{_≤_}
 use native.Mathlib.Omega.{arith}
-use Rattle.table.specs.Desk.{Desk}
 use Rattle.table.specs.Table.{deskOf}
-use Rattle.table.specs.Checks.{Checked}
-use Rattle.table.proofs.CheckLaws.{stops, goes, zero-checked}
-use Rattle.look.specs.Promise.{sourceChecks, buffersChecks}
-use Rattle.look.specs.Stages.{foundChecks}
-use Rattle.look.proofs.LookLaws.{source-is}
+use Rattle.table.specs.Checks.{Checks, Checked, askedChecks}
+use Rattle.table.proofs.CheckLaws.{numbered-by, zero-checked, asked-one}
+use Rattle.table.proofs.AnswerLaws.{answer-stops, answer-goes, answer-refused, answer-done}
+use Rattle.look.specs.Stages.{buffersChecks}
 use borrow.Author.Needs.{needs}
 use Rattle.look.proofs.found.Statement.{statement}
 use Rattle.look.proofs.found.Tie as tie
 
-abbrev deskAt : tie.Start → Desk
-deskAt s = deskOf (s .args .s) (s .args .shifts .now)
+abbrev named : tie.Start → Checks
+named s = let a = s .args in askedChecks (a .s .k) (a .s .m) (a .s .marks) (a .s .k) (a .source)
 
--- past the first test the number is a source's, and no mark above n is set
-passes : (c : tie.Else1) → let a = c .before .before .before .before .args in Checked (sourceChecks (a .s .k) (a .s .m) (a .s .marks) (a .source)) 0
-passes c =
-    let a = c .before .before .before .before .args in
-    zero-checked (sourceChecks (a .s .k) (a .s .m) (a .s .marks) (a .source)) (c .before .source-number .result) (c .if1 .left) (c .before .source-number .ensures)
+abbrev lent : tie.Start → Checks
+lent s = let a = s .args in buffersChecks (deskOf (a .s) (a .shifts .now)) (a .survivors .now) (a .rebuilt .now)
 
-named : (c : tie.Else1) → let a = c .before .before .before .before .args in (1 ≤ a .source) × (a .source ≤ a .s .k) × (a .s .marks / 2 ^ (a .s .k + a .s .m) ≡ 0)
-named c = let a = c .before .before .before .before .args in source-is (a .s .k) (a .s .m) (a .s .marks) (a .source) (passes c)
+-- past the first test the number is a source's
+passes : (c : tie.Else1) → Checked (named (c .before .before .before .before)) 0
+passes c = zero-checked (named (c .before .before .before .before)) (c .before .asked-number .result) (c .if1 .left) (c .before .asked-number .ensures)
 
-source-number-requires : tie.Need-source-number-requires
-source-number-requires c κs = search needs
+one : (c : tie.Else1) → let a = c .before .before .before .before .args in (1 ≤ a .source) × (a .source ≤ a .s .k)
+one c = let a = c .before .before .before .before .args in asked-one (a .s .k) (a .s .m) (a .s .marks) (a .s .k) (a .source) (passes c)
+
+asked-number-requires : tie.Need-asked-number-requires
+asked-number-requires c κs = search needs
 
 nowhere-requires : tie.Need-nowhere-requires
 nowhere-requires c κs = search needs
@@ -35,24 +34,11 @@ returns : tie.Need-returns
 returns c =
     let w = c .before .before in
     let s = w .before .before .before in
-    let a = s .args in
-    let D = deskAt s in
     let e = c .nowhere .ensures in
-    record {
-      numbered = subst (Checked (foundChecks D (a .s .marks) (a .source) (a .survivors .now) (a .rebuilt .now))) (sym (e .0)) (stops (sourceChecks (a .s .k) (a .s .m) (a .s .marks) (a .source)) (buffersChecks D (a .survivors .now) (a .rebuilt .now)) (w .source-number .result) (w .source-number .ensures) (c .before .if1 .taken));
-      refused = λ _. (e .1, e .2, e .3);
-      done = λ z. absurd (c .before .if1 .taken (sym (e .0) ∙ z));
-    }
+    answer-stops (named s) (lent s) (w .asked-number .result) _ (w .asked-number .ensures) (c .before .if1 .taken) (e .0) (e .1, e .2, e .3)
 
 buffers-number-requires : tie.Need-buffers-number-requires
-buffers-number-requires c κs = (c .before .before .before .before .pre, named c .2)
-
--- what the lengths decide is the look's
-decides : (c : tie.After-buffers-number) → let s = c .before .before .before .before .before in Checked (foundChecks (deskAt s) (s .args .s .marks) (s .args .source) (s .args .survivors .now) (s .args .rebuilt .now)) (c .buffers-number .result)
-decides c =
-    let s = c .before .before .before .before .before in
-    let a = s .args in
-    goes (sourceChecks (a .s .k) (a .s .m) (a .s .marks) (a .source)) (buffersChecks (deskAt s) (a .survivors .now) (a .rebuilt .now)) (c .buffers-number .result) (omega arith, (omega arith, tt)) (passes (c .before)) (c .buffers-number .ensures)
+buffers-number-requires c κs = search needs
 
 nowhere-requires-2 : tie.Need-nowhere-requires-2
 nowhere-requires-2 c κs = search needs
@@ -61,39 +47,31 @@ returns-2 : tie.Need-returns-2
 returns-2 c =
     let w = c .before .before in
     let s = w .before .before .before .before .before in
-    let a = s .args in
     let e = c .nowhere2 .ensures in
-    record {
-      numbered = subst (Checked (foundChecks (deskAt s) (a .s .marks) (a .source) (a .survivors .now) (a .rebuilt .now))) (sym (e .0)) (decides w);
-      refused = λ _. (e .1, e .2, e .3);
-      done = λ z. absurd (c .before .if2 .taken (sym (e .0) ∙ z));
-    }
+    answer-goes (named s) (lent s) _ (numbered-by (named s) refl) (passes (w .before))
+    (answer-refused (lent s) (w .buffers-number .result) _ (w .buffers-number .ensures) (c .before .if2 .taken) (e .0) (e .1, e .2, e .3))
 
 sub-standing : tie.Need-sub-standing
-sub-standing c = omega (arith, named (c .before .before) .0)
+sub-standing c = omega (arith, one (c .before .before) .0)
 
 standing-requires : tie.Need-standing-requires
 standing-requires c κs =
-    let n = named (c .before .before) in
+    let n = one (c .before .before) in
     (c .before .before .before .before .before .before .pre, omega arith)
 
 returns-3 : tie.Need-returns-3
 returns-3 c =
     let w = c .before .before in
     let s = w .before .before .before .before .before in
-    let a = s .args in
     let e = c .standing .ensures in
-    record {
-      numbered = subst (Checked (foundChecks (deskAt s) (a .s .marks) (a .source) (a .survivors .now) (a .rebuilt .now))) (c .before .if2 .left ∙ sym (e .0)) (decides w);
-      refused = λ n. absurd (n (e .0));
-      done = λ _. (e .1, e .2);
-    }
+    let free = zero-checked (lent s) (w .buffers-number .result) (c .before .if2 .left) (w .buffers-number .ensures) in
+    answer-goes (named s) (lent s) _ (numbered-by (named s) refl) (passes (w .before)) (answer-done (lent s) _ free (e .0) (e .1, e .2))
 
 pub found-spec : {M : Type 1} → statement M
 found-spec =
     tie.close
     (tie.spec
-    source-number-requires
+    asked-number-requires
     nowhere-requires
     returns
     buffers-number-requires

@@ -1,4 +1,4 @@
--- `look::part` meets its contract: the bytes are taken from where they stand. Assumes nothing.
+-- The bytes are taken from where they stand. Assumes nothing.
 use native.Mathlib.Nat.{add-sub-cancel-left}
 use borrow.Author.Needs.{needs}
 use Rattle.look.proofs.part.Statement.{statement}

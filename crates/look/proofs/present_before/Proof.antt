@@ -1,10 +1,10 @@
--- `look::present_before` meets its contract: the ones of the marks below packet i. Assumes nothing.
+-- The ones of the marks below packet i count the packets present before it. Assumes nothing.
 use mathlib.Core.Path.{_≡_, _∙_}
 use Prim.Native.Nat.{_*_, _%_, _^_}
 use native.Mathlib.Omega.{arith}
 use native.Mathlib.Nat.{one-mul}
 use lib.Pow.{shl-exact, pow-pos}
-use Rattle.look.proofs.LookLaws.{ones-below}
+use Rattle.table.proofs.MarkLaws.{ones-below}
 use borrow.Author.Needs.{needs}
 use Rattle.look.proofs.present_before.Statement.{statement}
 use Rattle.look.proofs.present_before.Tie as tie

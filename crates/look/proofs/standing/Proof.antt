@@ -1,11 +1,12 @@
--- `look::standing` meets its contract: before a source stand only sources. Assumes nothing.
+-- Before a source stand only sources. Assumes nothing.
 use mathlib.Core.Path.{refl, sym, ap, ap₂, _∙_}
 use mathlib.Core.Logic.{inl, inr}
 use Prim.Native.Nat.{_*_, _≤_}
 use native.Mathlib.Nat.{mul-le-mul}
 use native.Mathlib.Omega.{arith}
+use Rattle.table.specs.Limits.{maxK, maxBytes}
 use Rattle.table.specs.Table.{deskOf}
-use Rattle.look.proofs.LookLaws.{place-among-sources}
+use Rattle.table.proofs.PacketLaws.{source-bytes-high, place-among-sources}
 use borrow.Author.Needs.{needs}
 use Rattle.look.proofs.standing.Statement.{statement}
 use Rattle.look.proofs.standing.Tie as tie
@@ -23,18 +24,18 @@ mul-t7 : tie.Need-mul-t7
 mul-t7 c =
     let b = c .before .before .before in
     let s = b .before in
-    let few : c .present-before .result ≤ 8 = omega (arith, c .present-before .ensures .1, s .pre .0 .k-high, s .pre .1) in
-    let short : b .source-bytes .result ≤ 56 = omega (arith, b .source-bytes .ensures, s .pre .0 .l-high) in
-    let small : c .present-before .result * b .source-bytes .result ≤ 8 * 56 = mul-le-mul few short in
-    omega arith
+    let few : c .present-before .result ≤ maxK = omega (arith, c .present-before .ensures .1, s .pre .0 .k-high, s .pre .1) in
+    let short : b .source-bytes .result ≤ maxBytes = omega (arith, b .source-bytes .ensures, source-bytes-high (s .args .s .length) (s .pre .0 .l-high)) in
+    omega (arith, mul-le-mul few short)
 
 returns : tie.Need-returns
 returns c =
     let b = c .before .before .before in
     let s = b .before in
-    let D = deskOf (s .args .s) (s .args .shifts .now) in (
+    let D = deskOf (s .args .s) (s .args .shifts .now) in
+    let place = place-among-sources D (D .present) (s .args .i) (omega (arith, s .pre .1)) in (
       refl,
-      inl (sym (c .before .before .marked .ensures) ∙ c .before .if1 .taken, refl, ap₂ _*_ (c .present-before .ensures .0) (b .source-bytes .ensures) ∙ place-among-sources D (D .present) (s .args .i) (omega (arith, s .pre .1))),
+      inl (sym (c .before .before .marked .ensures) ∙ c .before .if1 .taken, refl, ap₂ _*_ (c .present-before .ensures .0) (b .source-bytes .ensures) ∙ place),
       b .source-bytes .ensures,
     )
 
@@ -42,10 +43,9 @@ mul-t10 : tie.Need-mul-t10
 mul-t10 c =
     let b = c .before .before in
     let s = b .before in
-    let few : s .args .i ≤ 8 = omega (arith, s .pre .0 .k-high, s .pre .1) in
-    let short : b .source-bytes .result ≤ 56 = omega (arith, b .source-bytes .ensures, s .pre .0 .l-high) in
-    let small : s .args .i * b .source-bytes .result ≤ 8 * 56 = mul-le-mul few short in
-    omega arith
+    let few : s .args .i ≤ maxK = omega (arith, s .pre .0 .k-high, s .pre .1) in
+    let short : b .source-bytes .result ≤ maxBytes = omega (arith, b .source-bytes .ensures, source-bytes-high (s .args .s .length) (s .pre .0 .l-high)) in
+    omega (arith, mul-le-mul few short)
 
 returns-2 : tie.Need-returns-2
 returns-2 c =

@@ -1,46 +1,33 @@
 -- The lengths decide 4 and 5, and what is read back the rest. Assumes nothing.
 use borrow.Author.Needs.{needs}
-use Prim.Native.Nat.{_+_, _*_}
-use mathlib.Core.Path.{_≡_}
-use mathlib.Core.List.{_++_}
-use lib.ListN.{length}
-use Rattle.table.specs.Desk.{placeOf}
+use mathlib.Core.Path.{_≡_, refl}
+use native.Mathlib.Omega.{arith}
+use Rattle.table.specs.Desk.{Desk, sourcesBytes, survivorsBytes}
 use Rattle.table.specs.Table.{deskOf}
-use Rattle.table.specs.Checks.{Checked, inputChecks, outputChecks}
-use Rattle.table.proofs.CheckLaws.{zero-checked}
-use Rattle.encode.proofs.StageLaws.{lengths-are, lengths-exact}
-use Rattle.rebuild.proofs.StageLaws.{given-refused, given-recovered}
+use Rattle.table.specs.Checks.{Checks, Checked}
+use Rattle.table.proofs.CheckLaws.{numbered-by, below-by, checked-below, zero-checked, lengths-are, lengths-exact}
+use Rattle.table.proofs.AnswerLaws.{answer-stops, answer-goes}
+use Rattle.rebuild.specs.Stages.{rebuildLengthsChecks, decodeChecks}
+use Rattle.rebuild.proofs.AnswerLaws.{untold}
 use Rattle.rebuild.proofs.rebuild_lent.Statement.{statement}
 use Rattle.rebuild.proofs.rebuild_lent.Tie as tie
 
--- the lengths that were asked for are those of the checks
-lengths : (c : tie.After-lengths-number)
-    → let s = c .before .before .before .before .before .before .args in
-    let D = deskOf (s .s) (s .shifts .now) in
-    Checked (inputChecks (placeOf D (D .present) (D .k + D .m)) (s .packets .now) ++ outputChecks (D .k * D .bytes) (s .out .now)) (c .lengths-number .result)
-lengths c =
-    let s = c .before .before .before .before .before .before .args in
-    let D = deskOf (s .s) (s .shifts .now) in
-    lengths-are (c .before .before .before .survivors-bytes .result) (placeOf D (D .present) (D .k + D .m)) (c .before .sources-bytes .result) (D .k * D .bytes) (s .packets .now) (s .out .now) (c .lengths-number .result)
-    (c .before .before .before .survivors-bytes .ensures) (c .before .sources-bytes .ensures) (c .lengths-number .ensures)
+abbrev deskAt : tie.Start → Desk
+deskAt s = deskOf (s .args .s) (s .args .shifts .now)
 
-passed : (c : tie.Else1)
-    → let s = c .before .before .before .before .before .before .before .args in
-    let D = deskOf (s .s) (s .shifts .now) in
-    Checked (inputChecks (placeOf D (D .present) (D .k + D .m)) (s .packets .now) ++ outputChecks (D .k * D .bytes) (s .out .now)) 0
-passed c =
-    let s = c .before .before .before .before .before .before .before .args in
-    let D = deskOf (s .s) (s .shifts .now) in
-    zero-checked (inputChecks (placeOf D (D .present) (D .k + D .m)) (s .packets .now) ++ outputChecks (D .k * D .bytes) (s .out .now)) (c .before .lengths-number .result) (c .if1 .left) (lengths (c .before))
+abbrev lengths : tie.Start → Checks
+lengths s = rebuildLengthsChecks (deskAt s) (s .args .packets .now) (s .args .out .now)
 
-exact-lengths : (c : tie.Else1)
-    → let s = c .before .before .before .before .before .before .before .args in
-    let D = deskOf (s .s) (s .shifts .now) in
-    (length (s .packets .now) ≡ placeOf D (D .present) (D .k + D .m)) × (length (s .out .now) ≡ D .k * D .bytes)
-exact-lengths c =
-    let s = c .before .before .before .before .before .before .before .args in
-    let D = deskOf (s .s) (s .shifts .now) in
-    lengths-exact (placeOf D (D .present) (D .k + D .m)) (D .k * D .bytes) (s .packets .now) (s .out .now) (passed c)
+-- the lengths that were computed are those of the checks
+checked : (c : tie.After-lengths-number) → Checked (lengths (c .before .before .before .before .before .before)) (c .lengths-number .result)
+checked c =
+    let s = c .before .before .before .before .before .before in
+    let needed = c .before .before .before .survivors-bytes in
+    lengths-are (needed .result) (survivorsBytes (deskAt s)) (c .before .sources-bytes .result) (sourcesBytes (deskAt s)) (s .args .packets .now) (s .args .out .now) _
+    (needed .ensures) (c .before .sources-bytes .ensures .0) (c .lengths-number .ensures)
+
+passes : (c : tie.Else1) → Checked (lengths (c .before .before .before .before .before .before .before)) 0
+passes c = zero-checked (lengths (c .before .before .before .before .before .before .before)) (c .before .lengths-number .result) (c .if1 .left) (checked (c .before))
 
 survivors-bytes-requires : tie.Need-survivors-bytes-requires
 survivors-bytes-requires c κs = search needs
@@ -61,14 +48,16 @@ returns : tie.Need-returns
 returns c =
     let n = c .before .before in
     let s = n .before .before .before .before .before .before in
-    given-refused (deskOf (s .args .s) (s .args .shifts .now)) (s .args .packets .now) (s .args .out .now) (n .lengths-number .result) (c .refused .result .count) (c .refused .result .number) (lengths n) (c .before .if1 .taken) (c .refused .ensures .0) (c .refused .ensures .1)
+    let e = c .refused .ensures in
+    let low = checked-below 8 (lengths s) (n .lengths-number .result) (omega arith) (below-by 8 (lengths s) refl) (checked n) in
+    answer-stops (lengths s) (decodeChecks (deskAt s) (s .args .packets .now)) (n .lengths-number .result) _ (checked n) (c .before .if1 .taken) (e .0)
+    (refl, untold (deskAt s) _ _ (λ eight. omega (arith, e .0)) (e .1))
 
 rebuild-into-requires : tie.Need-rebuild-into-requires
 rebuild-into-requires c κs =
-    let n = c .before .before in
-    let s = n .before .before .before .before .before .before in
-    let e = exact-lengths (c .before) in
-    (s .pre .0, s .pre .1, e .0, e .1)
+    let s = c .before .before .before .before .before .before .before .before in
+    let e = lengths-exact (survivorsBytes (deskAt s)) (sourcesBytes (deskAt s)) (s .args .packets .now) (s .args .out .now) (passes (c .before)) in
+    (s .pre, (e .0, e .1))
 
 same-length-2 : tie.Need-same-length-2
 same-length-2 c = search needs
@@ -77,10 +66,8 @@ returns-2 : tie.Need-returns-2
 returns-2 c =
     let r = c .before .before .rebuild-into in
     let e = c .before .before .before .before in
-    let n = e .before in
-    let s = n .before .before .before .before .before .before in
-    let D = deskOf (s .args .s) (s .args .shifts .now) in
-    given-recovered D (s .args .packets .now) (s .args .out .now) (r .result .number) (r .result .count) _ (passed e) (r .ensures .0) (r .ensures .1)
+    let s = e .before .before .before .before .before .before .before in
+    answer-goes (lengths s) (decodeChecks (deskAt s) (s .args .packets .now)) (r .result .number) (numbered-by (lengths s) refl) (passes e) (r .ensures)
 
 pub rebuild-lent-spec : {M : Type 1} → statement M
 rebuild-lent-spec =

@@ -1,7 +1,6 @@
 -- The end of the steps decides 8, a one above a last bit 9, and what is left 10. Assumes nothing.
 use borrow.Author.Needs.{needs}
 use borrow.Author.Tests.{not-true, not-false}
-use Rattle.table.specs.Table.{deskOf}
 use Rattle.rebuild.proofs.AnswerLaws.{recovered-stalled, recovered-stray, recovered-foreign, recovered-done}
 use Rattle.rebuild.proofs.recover.Statement.{statement}
 use Rattle.rebuild.proofs.recover.Tie as tie
@@ -12,8 +11,7 @@ read-back-requires c κs = search needs
 returns : tie.Need-returns
 returns c =
     let d = c .before .before .read-back in
-    let s = c .before .before .before .before .before in
-    (recovered-stalled (deskOf (s .args .s) (s .args .shifts .now)) (s .args .packets .now) (d .result .count) (d .result .whole) (d .result .consistent) _ (d .ensures .0) _ (not-true _ (c .if1 .taken)), d .ensures .1)
+    (recovered-stalled (d .ensures .0) _ (not-true _ (c .if1 .taken)), d .ensures .1)
 
 stray-requires : tie.Need-stray-requires
 stray-requires c κs = search needs
@@ -24,8 +22,9 @@ refused-requires c κs = search needs
 returns-2 : tie.Need-returns-2
 returns-2 c =
     let d = c .before .before .before .before .before .read-back in
-    let s = c .before .before .before .before .before .before .before .before in
-    (recovered-stray (deskOf (s .args .s) (s .args .shifts .now)) (s .args .packets .now) (d .result .count) (d .result .whole) (d .result .consistent) _ (d .ensures .0) _ _ _ (c .refused .ensures .0) (c .refused .ensures .1) (not-false _ (c .before .before .before .if1 .left)) (c .before .before .stray .ensures .so (c .before .if2 .taken)), d .ensures .1)
+    let whole = not-false _ (c .before .before .before .if1 .left) in
+    let strays = c .before .before .stray .ensures .so (c .before .if2 .taken) in
+    (recovered-stray (d .ensures .0) whole _ _ _ (c .refused .ensures .0) (c .refused .ensures .1) strays, d .ensures .1)
 
 refused-requires-2 : tie.Need-refused-requires-2
 refused-requires-2 c κs = search needs
@@ -33,14 +32,16 @@ refused-requires-2 c κs = search needs
 returns-3 : tie.Need-returns-3
 returns-3 c =
     let d = c .before .before .before .before .before .before .before .read-back in
-    let s = c .before .before .before .before .before .before .before .before .before .before in
-    (recovered-foreign (deskOf (s .args .s) (s .args .shifts .now)) (s .args .packets .now) (d .result .count) (d .result .whole) (d .result .consistent) _ (d .ensures .0) _ _ _ (c .refused2 .ensures .0) (c .refused2 .ensures .1) (not-false _ (c .before .before .before .before .before .if1 .left)) (c .before .before .before .before .stray .ensures .not-so (c .before .before .before .if2 .left)) (not-true _ (c .before .if3 .taken)), d .ensures .1)
+    let whole = not-false _ (c .before .before .before .before .before .if1 .left) in
+    let tidy = c .before .before .before .before .stray .ensures .not-so (c .before .before .before .if2 .left) in
+    (recovered-foreign (d .ensures .0) whole tidy _ _ _ (c .refused2 .ensures .0) (c .refused2 .ensures .1) (not-true _ (c .before .if3 .taken)), d .ensures .1)
 
 returns-4 : tie.Need-returns-4
 returns-4 c =
     let d = c .before .before .before .before .before .before .read-back in
-    let s = c .before .before .before .before .before .before .before .before .before in
-    (recovered-done (deskOf (s .args .s) (s .args .shifts .now)) (s .args .packets .now) (d .result .count) (d .result .whole) (d .result .consistent) _ (d .ensures .0) (not-false _ (c .before .before .before .before .if1 .left)) (c .before .before .before .stray .ensures .not-so (c .before .before .if2 .left)) (not-false _ (c .if3 .left)), d .ensures .1)
+    let whole = not-false _ (c .before .before .before .before .if1 .left) in
+    let tidy = c .before .before .before .stray .ensures .not-so (c .before .before .if2 .left) in
+    (recovered-done (d .ensures .0) whole tidy (not-false _ (c .if3 .left)), d .ensures .1)
 
 pub recover-spec : {M : Type 1} → statement M
 recover-spec =

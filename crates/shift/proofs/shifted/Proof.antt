@@ -58,8 +58,9 @@ loop-again : tie.Need-loop-again Inv-loop μ-loop Inv-loop2 μ-loop2
 loop-again c =
     let at-loop = c .before .before .before in
     let at = at-loop .before .before .args in
+    let l = at-loop .loop in
     let h : Bytes (at .src .now) = λ k. at-loop .before .shared-slice-known .given k .fits in
-    let more = parts-low (at .src .now) h (at .e) (at-loop .loop .copy) (omega arith) (at-loop .loop .i) (c .wide .result) (omega arith) (c .wide .ensures) (at-loop .loop .inv .1) (at-loop .loop .inv .2) in
+    let more = parts-low (at .src .now) h (at .e) (l .copy) (omega arith) (l .i) (c .wide .result) (omega arith) (c .wide .ensures) (l .inv .1) (l .inv .2) in
     (omega arith, more .0, more .1)
 
 loop2-holds : tie.Need-loop2-holds Inv-loop μ-loop Inv-loop2 μ-loop2

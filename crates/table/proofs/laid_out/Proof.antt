@@ -1,4 +1,4 @@
--- `table::laid_out` meets its contract: each cell passed holds the entry of its row and column, and the others 0. Assumes nothing.
+-- Each cell passed holds the entry of its row and column, and the others, past the last row, hold 0. Assumes nothing.
 use Prim.Native.Nat.{ℕ, _*_, _/_, _%_, _≤_, _<_, _-_}
 use mathlib.Core.Path.{_≡_, _∙_}
 use lib.ListN.{length, length-set}
@@ -23,7 +23,7 @@ abbrev μ-loop : tie.MeasureT-loop
 μ-loop k m table shifts₀ i₀ shifts i = m * maxK - i
 
 loop-holds : tie.Need-loop-holds Inv-loop μ-loop
-loop-holds c = (omega arith, search needs, below-none _, λ j _. getD-zeros 64 j)
+loop-holds c = (omega arith, search needs, below-none _, λ j _. getD-zeros cells j)
 
 mul-loop : tie.Need-mul-loop Inv-loop μ-loop
 mul-loop c = omega arith

@@ -1,4 +1,4 @@
--- `walk::ended` is right: the test tells whether every missing source is whole. Assumes nothing.
+-- The test tells whether every missing source is whole. Assumes nothing.
 use mathlib.Core.Path.{refl, sym, _∙_}
 use Rattle.bits.specs.Sums.{at}
 use Rattle.table.specs.Table.{deskOf}

@@ -1,4 +1,4 @@
--- `walk::is_full` is right: a source is full if it is present, or else if its progress is at its end. Assumes nothing.
+-- A source is full if it is present, or else if its progress is at its end. Assumes nothing.
 use mathlib.Core.Path.{sym, _∙_}
 use mathlib.Core.List.{[]}
 use Rattle.bits.specs.Sums.{at}

@@ -1,4 +1,4 @@
--- `walk::is_whole` is right: each source passed is full, and one that is not ends the search. Assumes nothing.
+-- Each source passed is full, and one that is not ends the search. Assumes nothing.
 use Prim.Native.Nat.{ℕ, _≤_, _-_}
 use mathlib.Core.Path.{_≡_, refl, sym, _∙_, subst}
 use mathlib.Core.Bool.{true}
@@ -33,21 +33,24 @@ loop-less c = search needs
 
 loop-again : tie.Need-loop-again Inv-loop μ-loop
 loop-again c =
-    let s = c .before .before .before .before .before in
-    (omega arith, all-more (c .before .before .before .before .loop .b) (fullB (deskOf (s .args .s) []) (at (s .args .g .now))) (c .before .before .before .before .loop .inv .1) (sym (c .before .is-full .ensures) ∙ c .if2 .taken))
+    let l = c .before .before .before .before in
+    let s = l .before .args in
+    (omega arith, all-more (l .loop .b) (fullB (deskOf (s .s) []) (at (s .g .now))) (l .loop .inv .1) (sym (c .before .is-full .ensures) ∙ c .if2 .taken))
 
 returns : tie.Need-returns Inv-loop μ-loop
 unfolding wholeB
 returns c =
-    let s = c .before .before .before .before .before in
-    sym (all-miss (s .args .s .k) (fullB (deskOf (s .args .s) []) (at (s .args .g .now))) (c .before .before .before .before .loop .b) (search needs) (sym (c .before .is-full .ensures) ∙ c .if2 .left))
+    let l = c .before .before .before .before in
+    let s = l .before .args in
+    sym (all-miss (s .s .k) (fullB (deskOf (s .s) []) (at (s .g .now))) (l .loop .b) (search needs) (sym (c .before .is-full .ensures) ∙ c .if2 .left))
 
 returns-2 : tie.Need-returns-2 Inv-loop μ-loop
 unfolding wholeB
 returns-2 c =
-    let s = c .before .before .before in
-    let e : c .before .before .loop .b ≡ s .args .s .k = omega arith in
-    sym (subst (λ (n : ℕ). allB n (fullB (deskOf (s .args .s) []) (at (s .args .g .now))) ≡ true) e (c .before .before .loop .inv .1))
+    let l = c .before .before in
+    let s = l .before .args in
+    let e : l .loop .b ≡ s .s .k = omega arith in
+    sym (subst (λ (n : ℕ). allB n (fullB (deskOf (s .s) []) (at (s .g .now))) ≡ true) e (l .loop .inv .1))
 
 pub is-whole-spec : {M : Type 1} → statement M
 is-whole-spec =

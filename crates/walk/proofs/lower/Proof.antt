@@ -1,7 +1,8 @@
--- `walk::lower` is right: a source that is present or finished changes nothing, and any other is compared by its place. Assumes nothing.
+-- A source that is present or finished changes nothing, and any other is compared by its place. Assumes nothing.
 use mathlib.Core.Path.{sym, ap, _∙_}
-use Prim.Native.Nat.{ℕ, _+_}
+use Prim.Native.Nat.{ℕ, _+_, _<_}
 use Rattle.bits.specs.Sums.{at}
+use Rattle.table.specs.Desk.{sourceBits}
 use Rattle.table.specs.Table.{deskOf}
 use Rattle.walk.specs.Compute.{placedOf}
 use Rattle.walk.proofs.Scan.{lower-present, lower-full, lower-free}
@@ -15,8 +16,8 @@ marked-requires c κs = search needs
 
 returns : tie.Need-returns
 returns c =
-    let s = c .before .before in
-    lower-present (deskOf (s .args .s) (s .args .shifts .now)) (at (s .args .g .now)) (s .args .a) (s .args .b) (s .args .x .place, s .args .x .source) (sym (c .before .marked .ensures) ∙ c .if1 .taken)
+    let s = c .before .before .args in
+    lower-present (deskOf (s .s) (s .shifts .now)) (at (s .g .now)) (s .a) (s .b) (s .x .place, s .x .source) (sym (c .before .marked .ensures) ∙ c .if1 .taken)
 
 source-bits-requires : tie.Need-source-bits-requires
 source-bits-requires c κs = search needs
@@ -29,8 +30,8 @@ element-copy-out-if2 c = search needs
 
 returns-2 : tie.Need-returns-2
 returns-2 c =
-    let s = c .before .before .before .before .before in
-    lower-full (deskOf (s .args .s) (s .args .shifts .now)) (at (s .args .g .now)) (s .args .a) (s .args .b) (s .args .x .place, s .args .x .source) (omega (arith, c .before .before .source-bits .ensures, c .if2 .taken))
+    let s = c .before .before .before .before .before .args in
+    lower-full (deskOf (s .s) (s .shifts .now)) (at (s .g .now)) (s .a) (s .b) (s .x .place, s .x .source) (omega (arith, c .before .before .source-bits .ensures, c .if2 .taken))
 
 shift-of-requires : tie.Need-shift-of-requires
 shift-of-requires c κs = search needs
@@ -44,17 +45,23 @@ element-copy-out-place c = search needs
 add-place : tie.Need-add-place
 add-place c =
     let s = c .before .before .before .before .before .before .before in
-    omega (arith, c .before .shift-of .ensures .1, s .pre .0 .l-high, s .pre .1 (s .args .b))
+    omega (arith, c .before .shift-of .ensures .1, s .pre .0 .l-high, s .pre .1 .0 (s .args .b))
 
 placed-requires : tie.Need-placed-requires
 placed-requires c κs = search needs
 
 returns-3 : tie.Need-returns-3
 returns-3 c =
-    let s = c .before .before .before .before .before .before .before .before in
+    let t = c .before .before .before in
+    let m = t .before .before .before .before in
+    let s = m .before .args in
+    let g = at (s .g .now) in
+    let x : ℕ × ℕ = (s .x .place, s .x .source) in
+    let missing = sym (m .marked .ensures) ∙ t .before .before .before .if1 .left in
+    let unfinished : g (s .b) < sourceBits (s .s .length) = omega (arith, t .before .before .source-bits .ensures, t .if2 .left) in
     c .placed .ensures
-    ∙ ap (λ (v : ℕ). placedOf (s .args .s .k) (s .args .x .place, s .args .x .source) (v + at (s .args .g .now) (s .args .b)) (s .args .b)) (c .before .before .shift-of .ensures .0)
-    ∙ lower-free (deskOf (s .args .s) (s .args .shifts .now)) (at (s .args .g .now)) (s .args .a) (s .args .b) (s .args .x .place, s .args .x .source) (sym (c .before .before .before .before .before .before .before .marked .ensures) ∙ c .before .before .before .before .before .before .if1 .left) (omega (arith, c .before .before .before .before .before .source-bits .ensures, c .before .before .before .if2 .left))
+    ∙ ap (λ (v : ℕ). placedOf (s .s .k) x (v + g (s .b)) (s .b)) (c .before .before .shift-of .ensures .0)
+    ∙ lower-free (deskOf (s .s) (s .shifts .now)) g (s .a) (s .b) x missing unfinished
 
 pub lower-spec : {M : Type 1} → statement M
 lower-spec =

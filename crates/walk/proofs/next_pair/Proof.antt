@@ -1,7 +1,7 @@
--- `walk::next_pair` is right: no parity passed has a bare source, so the first found is the lowest. Assumes nothing.
+-- No parity passed has a bare source, so the first found is the lowest. Assumes nothing.
 use Prim.Native.Nat.{ℕ, _≤_, _<_, _-_}
 use mathlib.Core.Path.{_≡_, sym, _∙_}
-use mathlib.Core.Bool.{false}
+use mathlib.Core.Bool.{Bool, false}
 use borrow.Author.Count.{below-none, below-more}
 use borrow.Author.Tests.{lt-ltb, le-ltb}
 use lib.Dec.{ltb}
@@ -26,13 +26,18 @@ loop-holds c = (omega arith, below-none _)
 source-of-requires : tie.Need-source-of-requires Inv-loop μ-loop
 source-of-requires c κs = search needs
 
+-- whether parity a has a bare source
+abbrev hasB : tie.Start Inv-loop μ-loop → ℕ → Bool
+hasB c a = let s = c .args in ltb (sourceOf (deskOf (s .s) (s .shifts .now)) (at (s .g .now)) a) (s .s .k)
+
 returns : tie.Need-returns Inv-loop μ-loop
 unfolding parityOf
 returns c =
-    let s = c .before .before .before .before .before .before in (
-      sym (lowest-found (s .args .s .m) (λ a. ltb (sourceOf (deskOf (s .args .s) (s .args .shifts .now)) (at (s .args .g .now)) a) (s .args .s .k)) (c .before .before .before .before .before .loop .a) (search needs) (lt-ltb (sourceOf (deskOf (s .args .s) (s .args .shifts .now)) (at (s .args .g .now)) (c .before .before .before .before .before .loop .a)) (s .args .s .k) (omega (arith, c .before .before .source-of .ensures, c .if2 .taken))) (c .before .before .before .before .before .loop .inv .1)),
-      λ _. c .before .before .source-of .ensures,
-    )
+    let f = c .before .before in
+    let l = f .before .before .before in
+    let s = l .before .args in
+    let here = lt-ltb (sourceOf (deskOf (s .s) (s .shifts .now)) (at (s .g .now)) (l .loop .a)) (s .s .k) (omega (arith, f .source-of .ensures, c .if2 .taken)) in
+    (sym (lowest-found (s .s .m) (hasB (l .before)) (l .loop .a) (search needs) here (l .loop .inv .1)), λ _. f .source-of .ensures)
 
 add-a : tie.Need-add-a Inv-loop μ-loop
 add-a c = search needs
@@ -42,15 +47,19 @@ loop-less c = search needs
 
 loop-again : tie.Need-loop-again Inv-loop μ-loop
 loop-again c =
-    let s = c .before .before .before .before .before .before in
-    (omega arith, below-more _ _ (c .before .before .before .before .before .loop .inv .1) (le-ltb (sourceOf (deskOf (s .args .s) (s .args .shifts .now)) (at (s .args .g .now)) (c .before .before .before .before .before .loop .a)) (s .args .s .k) (omega (arith, c .before .before .source-of .ensures, c .if2 .left))))
+    let f = c .before .before in
+    let l = f .before .before .before in
+    let s = l .before .args in
+    let none = le-ltb (sourceOf (deskOf (s .s) (s .shifts .now)) (at (s .g .now)) (l .loop .a)) (s .s .k) (omega (arith, f .source-of .ensures, c .if2 .left)) in
+    (omega arith, below-more _ _ (l .loop .inv .1) none)
 
 returns-2 : tie.Need-returns-2 Inv-loop μ-loop
 unfolding parityOf
 returns-2 c =
-    let s = c .before .before .before in
-    let e : c .before .before .loop .a ≡ s .args .s .m = omega arith in
-    (e ∙ sym (lowest-none (s .args .s .m) (λ a. ltb (sourceOf (deskOf (s .args .s) (s .args .shifts .now)) (at (s .args .g .now)) a) (s .args .s .k)) (λ j q. c .before .before .loop .inv .1 j (omega arith))), λ l. absurd (omega arith))
+    let l = c .before .before in
+    let s = l .before .args in
+    let e : l .loop .a ≡ s .s .m = omega arith in
+    (e ∙ sym (lowest-none (s .s .m) (hasB (l .before)) (λ j q. l .loop .inv .1 j (omega arith))), λ h. absurd (omega arith))
 
 pub next-pair-spec : {M : Type 1} → statement M
 next-pair-spec =

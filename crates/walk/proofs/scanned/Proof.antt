@@ -1,4 +1,4 @@
--- `walk::scanned` is right: after each turn x is the lowest next bit among the sources passed. Assumes nothing.
+-- After each turn x is the lowest next bit among the sources passed. Assumes nothing.
 use Prim.Native.Nat.{ℕ, _≤_, _-_}
 use mathlib.Core.Path.{_≡_, refl, ap, _∙_}
 use native.Mathlib.Numerals.{add-one}

@@ -1,4 +1,4 @@
--- `walk::source_of` is right: a parity that is not at hand has no bare source, and one at hand is scanned. Assumes nothing.
+-- A parity that is not at hand has no bare source, and one at hand is scanned. Assumes nothing.
 use mathlib.Core.Path.{sym, _∙_}
 use Rattle.bits.specs.Sums.{at}
 use Rattle.table.specs.Table.{deskOf}

@@ -1,8 +1,8 @@
--- `walk::walk` is right: the checks give the call's own desk, and the walk over it is made to its end. Assumes nothing.
-use mathlib.Core.Path.{refl, sym, _∙_, subst}
-use Rattle.table.specs.Desk.{Desk}
-use Rattle.table.specs.Checks.{Checked, markedChecks}
-use Rattle.table.proofs.OpenLaws.{desk-opened}
+-- Refused with its shape or its marks a call has made no step; else the walk over its own desk is made to its end. Assumes nothing.
+use mathlib.Core.Path.{refl}
+use Rattle.table.specs.Checks.{markedChecks}
+use Rattle.table.proofs.AnswerLaws.{answer-refused, answer-done}
+use Rattle.checks.proofs.OpenLaws.{opened-passes, at-desk}
 use Rattle.walk.specs.Promise.{Finished}
 use borrow.Author.Needs.{needs}
 use Rattle.walk.proofs.walk.Statement.{statement}
@@ -12,30 +12,25 @@ open-marked-requires : tie.Need-open-marked-requires
 open-marked-requires c κs = search needs
 
 returns : tie.Need-returns
-returns c = record {
-  numbered = c .before .before .open-marked .ensures .numbered;
-  refused = λ _. (refl, refl, refl);
-  done = λ z. absurd (c .if1 .taken z);
-}
+returns c =
+    let o = c .before .before in
+    let x = o .before .before .args in
+    answer-refused (markedChecks (x .k) (x .m) (x .l) (x .table .now) (x .marks)) (o .open-marked .result .number) _ (o .open-marked .ensures .numbered) (c .if1 .taken) refl (refl, refl, refl)
 
 to-end-requires : tie.Need-to-end-requires
 to-end-requires c κs = search needs
 
 returns-2 : tie.Need-returns-2
 returns-2 c =
-    let w = c .to-end in
     let e = c .before .before .before .before .before in
-    let o = e .before .before .open-marked in
-    let x = e .before .before .before .before .args in
+    let o = e .before .before in
+    let x = o .before .before .args in
     let cs = markedChecks (x .k) (x .m) (x .l) (x .table .now) (x .marks) in
-    let r = w .ensures in
-    let z = e .if1 .left in
-    record {
-      numbered = subst (Checked cs) (z ∙ sym (r .0)) (o .ensures .numbered);
-      refused = λ n. absurd (n (r .0));
-      done = λ _. subst (λ (D : Desk). Finished D (w .result .count) (w .result .whole) (w .result .progress))
-          (desk-opened (x .k) (x .m) (x .l) (x .table .now) cs (x .marks) (o .result) (o .ensures) z) (r .1);
-    }
+    let O = o .open-marked .ensures in
+    let w = c .to-end .result in
+    let passes = opened-passes O (e .if1 .left) in
+    answer-done cs _ passes (c .to-end .ensures .0)
+    (at-desk O (e .if1 .left) (λ _ D. Finished D (w .count) (w .whole) (w .progress)) (c .to-end .ensures .1))
 
 pub walk-spec : {M : Type 1} → statement M
 walk-spec = tie.close (tie.spec open-marked-requires returns to-end-requires returns-2)

@@ -1,4 +1,4 @@
--- `sheet::pieces::header` meets its contract: it is put at the front, where nothing stands before it. Assumes nothing.
+-- It is put at the front, where nothing stands before it.
 use mathlib.Core.Path.{refl}
 use mathlib.Core.List.{[]}
 use native.Mathlib.Omega.{arith}

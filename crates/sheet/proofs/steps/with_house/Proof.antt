@@ -1,4 +1,4 @@
--- `sheet::steps::with_house` meets its contract: the size is right and the room exact, so the house table is written. Assumes nothing.
+-- The size is right and the room exact, so the house table is written.
 use Rattle.sheet.proofs.Rows.{house-written}
 use borrow.Author.Needs.{needs}
 use Rattle.sheet.proofs.steps.with_house.Statement.{statement}

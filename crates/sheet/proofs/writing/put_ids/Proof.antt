@@ -1,14 +1,18 @@
--- `sheet::writing::put_ids` meets its contract: the first number, and the others each after a comma. Assumes nothing.
+-- The first number stands at the front, and the others follow each after a comma.
 use mathlib.Core.Path.{_≡_, refl, sym, ap, subst, _∙_}
 use mathlib.Core.List.{List, [], _++_}
-use Prim.Native.Nat.{ℕ}
+use Prim.Native.Nat.{ℕ, _+_}
 use native.Mathlib.Omega.{arith}
 use lib.ListN.{length, take, drop, length-take, length-append}
 use lib.Seq.{getD-take}
 use Rattle.bits.specs.Sums.{at}
-use Rattle.sheet.specs.Text.{numeral, afterCommas, commaed}
-use Rattle.sheet.specs.Printing.{Front}
-use Rattle.sheet.proofs.Writings.{numeral-short, commaed-first}
+use Rattle.text.specs.Text.{Front}
+use Rattle.text.specs.Numerals.{numeral}
+use Rattle.text.proofs.NumeralLaws.{numeral-short}
+use Rattle.table.specs.Limits.{maxK, maxM}
+use Rattle.choices.proofs.Holding.{take-rising}
+use Rattle.sheet.specs.Printing.{afterCommas, commaed, idDigits}
+use Rattle.sheet.proofs.Writings.{commaed-first}
 use borrow.Author.Needs.{needs}
 use Rattle.sheet.proofs.writing.put_ids.Statement.{statement}
 use Rattle.sheet.proofs.writing.put_ids.Tie as tie
@@ -23,7 +27,10 @@ put-others-requires : tie.Need-put-others-requires
 put-others-requires c κs =
     let s = c .before .before .before .before .before .before in
     let a = c .before .before .before .put-numeral in
-    (omega arith, omega arith, s .pre .2, omega (arith, a .ensures .0, numeral-short (at (s .args .t2) 0) (s .pre .2 0 (omega arith))), omega (arith, a .kept .0))
+    let n : length (s .args .t2) ≡ maxK = search needs in
+    let id = take-rising (maxK + maxM) (s .args .k) (s .args .t2) (omega arith) (s .pre .2) 0 (omega arith) in
+    let short = numeral-short idDigits (at (s .args .t2) 0) (omega arith) (omega (arith, id .1)) in
+    (omega arith, omega arith, s .pre .2, omega (arith, a .ensures .0, short), omega (arith, a .kept .0))
 
 same-length : tie.Need-same-length
 same-length c = search needs
@@ -33,15 +40,17 @@ returns c =
     let s = c .before .before .before .before .before .before .before .before .before in
     let a = c .before .before .before .before .before .before .put-numeral in
     let b = c .before .before .put-others in
-    let n : length (s .args .t2) ≡ 8 = search needs in
+    let n : length (s .args .t2) ≡ maxK = search needs in
     let xs = take (s .args .k) (s .args .t2) in
+    let first = numeral (at (s .args .t2) 0) in
+    let others = afterCommas (drop 1 xs) in
     let lx : length xs ≡ s .args .k = simp length-take (omega arith) in
     let e : at xs 0 ≡ at (s .args .t2) 0 = getD-take (s .args .k) (s .args .t2) 0 0 (omega arith) in
-    let f : commaed xs ≡ numeral (at (s .args .t2) 0) ++ afterCommas (drop 1 xs) = commaed-first xs (omega arith) ∙ ap (λ (x : ℕ). numeral x ++ afterCommas (drop 1 xs)) e in
+    let f : commaed xs ≡ first ++ others = commaed-first xs (omega arith) ∙ ap (λ (x : ℕ). numeral x ++ others) e in
     let front = a .ensures .2 (s .args .out .now) [] refl refl in (
-      omega (arith, a .ensures .0, b .ensures .0, ap length f, length-append (numeral (at (s .args .t2) 0)) (afterCommas (drop 1 xs))),
+      omega (arith, a .ensures .0, b .ensures .0, ap length f, length-append first others),
       b .ensures .1,
-      subst (λ (t : List ℕ). Front (s .args .out .now) t (b .last .0)) (sym f) (b .ensures .2 (s .args .out .now) (numeral (at (s .args .t2) 0)) (omega (arith, a .ensures .0)) front),
+      subst (λ (t : List ℕ). Front (s .args .out .now) t (b .last .0)) (sym f) (b .ensures .2 (s .args .out .now) first (omega (arith, a .ensures .0)) front),
     )
 
 pub put-ids-spec : {M : Type 1} → statement M

@@ -1,10 +1,8 @@
--- `table::Table::house` meets its contract: the sheet is the list of its rule's sixty-four values, by computing. Assumes nothing.
+-- The sheet is the list of its rule's sixty-four values, by computing. Assumes nothing.
 use mathlib.Core.Path.{refl}
 use Rattle.table.specs.Table.{houseCell}
 use Rattle.table.specs.Limits.{cells}
 use Rattle.table.proofs.Tabulated.{tabulated-at}
-use native.Mathlib.Omega.{arith}
-use borrow.Author.Needs.{needs}
 use Rattle.table.proofs.Table.house.Statement.{statement}
 use Rattle.table.proofs.Table.house.Tie as tie
 

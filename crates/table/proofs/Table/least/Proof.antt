@@ -1,4 +1,4 @@
--- `table::Table::least` meets its contract: its shifts are noughts. Assumes nothing.
+-- Its shifts are noughts. Assumes nothing.
 use Rattle.table.specs.Limits.{cells}
 use Rattle.table.proofs.TableLaws.{noughts-at}
 use native.Mathlib.Omega.{arith}

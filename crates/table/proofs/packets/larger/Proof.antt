@@ -1,4 +1,4 @@
--- `table::packets::larger` meets its contract. Assumes nothing.
+-- The code picks by the test by which its definition picks. Assumes nothing.
 use borrow.Author.Tests.{le-leb, lt-leb}
 use Rattle.table.proofs.packets.larger.Statement.{statement}
 use Rattle.table.proofs.packets.larger.Tie as tie

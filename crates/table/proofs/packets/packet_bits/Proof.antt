@@ -1,4 +1,4 @@
--- `table::packets::packet_bits` meets its contract: a source, or a parity. Assumes nothing.
+-- A source has its own bits, and a parity as many more as it shifts its sources up. Assumes nothing.
 use Prim.Native.Nat.{_+_, _-_}
 use mathlib.Core.Path.{_≡_, ap, ap₂, _∙_}
 use Rattle.table.specs.Table.{deskOf}

@@ -1,4 +1,4 @@
--- `table::packets::packet_bytes` meets its contract: a source, or a parity. Assumes nothing.
+-- A source has its own bytes, and the bits of a parity are rounded up to whole bytes. Assumes nothing.
 use Prim.Native.Nat.{_+_, _/_}
 use mathlib.Core.Path.{ap, _∙_}
 use Rattle.table.specs.Table.{deskOf}

@@ -1,5 +1,5 @@
--- `table::packets::parities_bytes` meets its contract: one parity after the other. Assumes nothing.
-use Prim.Native.Nat.{ℕ, _+_, _*_, _≤_, _-_}
+-- The places of the parities add up, one parity after the other. Assumes nothing.
+use Prim.Native.Nat.{_+_, _*_, _≤_, _-_}
 use mathlib.Core.Path.{_≡_, ap, ap₂, _∙_}
 use lib.Dec.{leb}
 use Rattle.table.specs.Limits.{longest}

@@ -1,6 +1,6 @@
--- `table::packets::row_most` meets its contract: the largest so far. Assumes nothing.
-use Prim.Native.Nat.{ℕ, _+_, _≤_, _-_}
-use mathlib.Core.Path.{_≡_, refl, ap, ap₂, _∙_}
+-- After each turn x is the largest shift of the columns passed. Assumes nothing.
+use Prim.Native.Nat.{_≤_, _-_}
+use mathlib.Core.Path.{_≡_, ap, ap₂, _∙_}
 use lib.Dec.{leb}
 use Rattle.bits.specs.Sums.{pick}
 use Rattle.table.specs.Desk.{most}

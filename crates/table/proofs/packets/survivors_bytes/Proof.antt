@@ -1,75 +1,69 @@
--- `table::packets::survivors_bytes` meets its contract: from one mark to the next, and past the last. Assumes nothing.
-use Prim.Native.Nat.{ℕ, _+_, _*_, _/_, _^_, _≤_, _<_, _-_}
-use mathlib.Core.Path.{_≡_, sym, ap, ap₂, _∙_}
-use native.Mathlib.Nat.{div-one}
+-- The places of the packets present add up, from one to the next and past the last. Assumes nothing.
+use Prim.Native.Nat.{_+_, _*_, _≤_, _<_, _-_}
+use mathlib.Core.Bool.{true}
+use mathlib.Core.Path.{_≡_, ap, ap₂, _∙_}
 use Rattle.table.specs.Limits.{longest}
 use Rattle.table.specs.Desk.{mark, placeOf}
 use Rattle.table.specs.Table.{deskOf}
-use Rattle.table.proofs.PacketLaws.{place-none, next-in, next-place, next-rest, last-place}
+use Rattle.table.proofs.PacketLaws.{place-none, place-on, place-next}
 use native.Mathlib.Omega.{arith}
 use borrow.Author.Needs.{needs}
 use Rattle.table.proofs.packets.survivors_bytes.Statement.{statement}
 use Rattle.table.proofs.packets.survivors_bytes.Tie as tie
 
 abbrev Inv-loop : tie.InvT-loop
-Inv-loop s shifts total₀ next₀ rest₀ total next rest =
-    (next ≤ s .k + s .m) × (rest ≡ s .marks / 2 ^ next) × (total ≡ placeOf (deskOf s shifts) (mark (s .marks)) next) × (total ≤ longest * next)
+Inv-loop s shifts n total₀ i₀ total i =
+    (i ≤ s .k + s .m) × (i < s .k + s .m → mark (s .marks) i ≡ true) × (total ≡ placeOf (deskOf s shifts) (mark (s .marks)) i) × (total ≤ longest * i)
 
 abbrev μ-loop : tie.MeasureT-loop
-μ-loop s shifts total₀ next₀ rest₀ total next rest = s .k + s .m - next
+μ-loop s shifts n total₀ i₀ total i = s .k + s .m - i
+
+add-n : tie.Need-add-n Inv-loop μ-loop
+add-n c = search needs
+
+next-present-requires : tie.Need-next-present-requires Inv-loop μ-loop
+next-present-requires c κs = search needs
 
 loop-holds : tie.Need-loop-holds Inv-loop μ-loop
-loop-holds c = (omega arith, sym (div-one _), place-none _ _, omega arith)
-
--- the packet found is one of the k + m
-present-in : (c : tie.After-lowest-present Inv-loop μ-loop) → let s = c .before .before .before .args .s in c .before .before .loop .next + c .lowest-present .result < s .k + s .m
-present-in c =
-    let l = c .before .before in
-    let s = l .before in
-    next-in (deskOf (s .args .s) (s .args .shifts .now)) (s .args .s .marks) (s .args .s .k + s .args .s .m) (s .pre .1) (l .loop .next) (l .loop .rest) (l .loop .inv .1) (c .lowest-present .result) (c .lowest-present .ensures .0)
-
-lowest-present-requires : tie.Need-lowest-present-requires Inv-loop μ-loop
-lowest-present-requires c κs = search needs
-
-add-packet-bytes : tie.Need-add-packet-bytes Inv-loop μ-loop
-add-packet-bytes c = search needs
+loop-holds c =
+    let s = c .before .before .args in
+    let N = c .next-present .ensures in
+    (N .most, N .found, place-none _ _ ∙ place-next (deskOf (s .s) (s .shifts .now)) (s .s .marks) 0 _ _ N, omega arith)
 
 packet-bytes-requires : tie.Need-packet-bytes-requires Inv-loop μ-loop
-packet-bytes-requires c κs = (c .before .before .before .pre .0, present-in c)
+packet-bytes-requires c κs = search needs
 
 add-total : tie.Need-add-total Inv-loop μ-loop
 add-total c = search needs
 
-add-next : tie.Need-add-next Inv-loop μ-loop
-add-next c = search needs
+add-next-present : tie.Need-add-next-present Inv-loop μ-loop
+add-next-present c = search needs
 
-add-next-2 : tie.Need-add-next-2 Inv-loop μ-loop
-add-next-2 c = search needs
-
-shr-rest : tie.Need-shr-rest Inv-loop μ-loop
-shr-rest c = search needs
+next-present-requires-2 : tie.Need-next-present-requires-2 Inv-loop μ-loop
+next-present-requires-2 c κs = search needs
 
 loop-less : tie.Need-loop-less Inv-loop μ-loop
-loop-less c = omega (arith, present-in (c .before))
+loop-less c = let N = c .next-present2 .ensures in omega (arith, N .from)
 
 loop-again : tie.Need-loop-again Inv-loop μ-loop
 loop-again c =
     let p = c .before in
     let l = p .before .before in
-    let s = l .before in
-    let D = deskOf (s .args .s) (s .args .shifts .now) in
-    let n = s .args .s .k + s .args .s .m in (
-      omega (arith, present-in p),
-      next-rest D (s .args .s .marks) n (s .pre .1) (l .loop .next) (l .loop .rest) (l .loop .inv .1) (p .lowest-present .result),
-      ap₂ _+_ (l .loop .inv .2) (c .packet-bytes .ensures .0) ∙ next-place D (s .args .s .marks) n (s .pre .1) (l .loop .next) (l .loop .rest) (l .loop .inv .1) (p .lowest-present .result) (p .lowest-present .ensures .0),
-      omega (arith, c .packet-bytes .ensures .1),
+    let s = l .before .before .before .args in
+    let D = deskOf (s .s) (s .shifts .now) in
+    let N = c .next-present2 .ensures in (
+      N .most,
+      N .found,
+      ap₂ _+_ (l .loop .inv .2) (p .packet-bytes .ensures .0) ∙ place-on D (mark (s .s .marks)) (l .loop .i) (l .loop .inv .1 (omega arith)) ∙ place-next D (s .s .marks) (l .loop .i + 1) _ _ N,
+      omega (arith, p .packet-bytes .ensures .1, N .from),
     )
 
 returns : tie.Need-returns Inv-loop μ-loop
 returns c =
     let l = c .before in
-    let s = l .before in
-    l .loop .inv .2 ∙ last-place (deskOf (s .args .s) (s .args .shifts .now)) (s .args .s .marks) (s .args .s .k + s .args .s .m) (s .pre .1) (l .loop .next) (l .loop .rest) (l .loop .inv .1) (c .loop-test .left) (l .loop .inv .0)
+    let s = l .before .before .before .args in
+    let e : l .loop .i ≡ s .s .k + s .s .m = omega (arith, l .loop .inv .0) in
+    l .loop .inv .2 ∙ ap (placeOf (deskOf (s .s) (s .shifts .now)) (mark (s .s .marks))) e
 
 pub survivors-bytes-spec : {M : Type 1} → statement M
 survivors-bytes-spec =
@@ -77,14 +71,13 @@ survivors-bytes-spec =
     (tie.spec
     Inv-loop
     μ-loop
+    add-n
+    next-present-requires
     loop-holds
-    lowest-present-requires
-    add-packet-bytes
     packet-bytes-requires
     add-total
-    add-next
-    add-next-2
-    shr-rest
+    add-next-present
+    next-present-requires-2
     loop-less
     loop-again
     returns)

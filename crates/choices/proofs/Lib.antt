@@ -1,0 +1,4 @@
+pub mod Orders
+pub mod Holding
+pub mod Successors
+pub mod OneAnswer

@@ -1,3 +1,0 @@
-pub mod CodeLaws
-pub mod RowLaws
-pub mod StageLaws

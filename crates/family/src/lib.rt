@@ -1,0 +1,41 @@
+// Tables of a family: the house table of k sources and m parities; and the judge.
+pub mod judge;
+
+use table::Number;
+use table::Table;
+ghost use mathlib.Core.Path.{_≡_};
+ghost use lib.ListN.{length};
+ghost use Prim.Native.Nat.{ℕ, _+_, _*_, _/_, _%_, _≤_, _<_};
+ghost use Rattle.bits.specs.Sums.{at};
+ghost use Rattle.table.specs.Limits.{maxK, maxM};
+ghost use Rattle.family.specs.Promise.{FamilyWritten};
+
+// Writes the shifts of a table row by row, k to a row.
+fn write(t: Table, out: &mut [u8])
+    requires { ⌜ (1 ≤ t .k) × (t .k ≤ maxK) × (t .m ≤ maxM) ⌝ }
+    requires { ⌜ length (now out) ≡ t .m * t .k ⌝ }
+    ensures { λ _. ⌜ ((i : ℕ) → i < length (now (out .entry)) → at (now (out .exit)) i ≡ at (t .shifts) (i / t .k * maxK + i % t .k)) ⌝ }
+{
+    let k = t.k;
+    let shifts = t.shifts;
+    let mut i = 0;
+    while i < out.len() {
+        out[i] = shifts[i / k * Table::SOURCES + i % k];
+        i += 1;
+    }
+}
+
+// The house table into out: m·k bytes, row by row.
+pub fn family_table(k: u64, m: u64, out: &mut [u8]) -> u64
+    ensures { λ r. ⌜ FamilyWritten k m (now (out .entry)) r (now (out .exit)) ⌝ }
+{
+    let number = checks::size_number(k, m);
+    if number != 0 {
+        return number;
+    }
+    if out.len() as u64 != m * k {
+        return Number::OUTPUT;
+    }
+    write(Table::house(k, m), out);
+    0
+}

@@ -1,0 +1,3 @@
+pub mod Readings
+pub mod Lines
+pub mod OneAnswer

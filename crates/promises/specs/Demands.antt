@@ -1,0 +1,369 @@
+-- The demands, sentence by sentence, and what each says of the calls, over their own inputs. proofs/Demands proves each statement: `ParitiesAreTheSum` is proved as `parities-are-the-sum`.
+use mathlib.Core.Path.{_≡_}
+use mathlib.Core.Logic.{_↔_, _≢_, _⊎_}
+use mathlib.Core.List.{List, _++_, _∷_}
+use mathlib.Core.Bool.{not}
+use Prim.Native.Nat.{ℕ, _+_, _-_, _*_, _≤_, _<_}
+use lib.Dec.{leb, ltb}
+use lib.ListN.{length, drop, set}
+use Rattle.bits.specs.Sums.{at, count, pick}
+use Rattle.bits.specs.Bits.{Bytes, bitAt, slice, part, joined}
+use Rattle.table.specs.Desk.{Desk, desk, mark, sourceBits, sourceBytes, sourcesBytes, survivorsBytes, packetBits, packetBytes, placeOf}
+use Rattle.table.specs.Checks.{Checks, Checked, markedChecks, inputChecks, outputChecks}
+use Rattle.family.specs.Promise.{FamilyWritten, Judged}
+use Rattle.code.specs.Code.{Bits, parity, sourcesOf, packetOf, survivorsOf, Source, Encodes}
+use Rattle.encode.specs.Promise.{EncodedAll, EncodedOne}
+use Rattle.walk.specs.Walk.{Order, Gone, Held, Free, Stuck, Run, Whole}
+use Rattle.walk.specs.Read.{readBy}
+use Rattle.walk.specs.Promise.{Walked, Stepped}
+use Rattle.walk.proofs.ReadLaws.{presentOf}
+use Rattle.walk.specs.Ends.{Finishes}
+use Rattle.survivors.specs.Packets.{EncodesTo}
+use Rattle.rebuild.specs.Promise.{Rebuilt}
+use Rattle.repair.specs.Promise.{Repaired}
+use Rattle.card.specs.Block.{LoneBlock}
+use Rattle.card.specs.Promise.{BlockTaken}
+
+-- ---- Demand 1
+
+-- D1.1 Every call takes any numbers and any bytes, ends, and reads or writes nothing outside what it was lent.
+-- That is what it says of a function of this language, with no `requires`, that it is proved.
+
+-- D1.2 Bad input gets the number from our list, in the listed order, and the output it was lent keeps its old bytes.
+-- The number is that of the first check that refuses; two calls with the same checks give the same one:
+abbrev pub NumberOfTheList : Type 1
+NumberOfTheList = (cs : Checks) (n n′ : ℕ) → Checked cs n → Checked cs n′ → n ≡ n′
+
+-- and each call that is lent an output keeps it.
+abbrev pub FamilyKeeps : Type 0
+FamilyKeeps =
+    (k m : ℕ) (before : List ℕ) (number : ℕ) (after : List ℕ)
+    → FamilyWritten k m before number after
+    → (number ≡ 0 → ⊥)
+    → after ≡ before
+
+abbrev pub EncodeAllKeeps : Type 0
+EncodeAllKeeps =
+    (k m l : ℕ) (table sources before : List ℕ) (number : ℕ) (after : List ℕ)
+    → EncodedAll k m l table sources before number after
+    → (number ≡ 0 → ⊥)
+    → after ≡ before
+
+abbrev pub EncodeOneKeeps : Type 0
+EncodeOneKeeps =
+    (k m l : ℕ) (table : List ℕ) (packet : ℕ) (sources before : List ℕ) (number : ℕ) (after : List ℕ)
+    → EncodedOne k m l table packet sources before number after
+    → (number ≡ 0 → ⊥)
+    → after ≡ before
+
+abbrev pub RebuildKeeps : Type 0
+RebuildKeeps =
+    (k m l : ℕ) (table : List ℕ) (marks : ℕ) (packets before : List ℕ) (number count : ℕ) (after : List ℕ)
+    → Rebuilt k m l table marks packets before number count after
+    → (number ≡ 0 → ⊥)
+    → after ≡ before
+
+abbrev pub RepairKeeps : Type 0
+RepairKeeps =
+    (k m l : ℕ) (table : List ℕ) (marks : ℕ) (packets : List ℕ) (packet : ℕ) (before : List ℕ) (number : ℕ) (after : List ℕ)
+    → Repaired k m l table marks packets packet before number after
+    → (number ≡ 0 → ⊥)
+    → after ≡ before
+
+abbrev pub BlockKeeps : Type 0
+BlockKeeps =
+    (block before : List ℕ) (number count : ℕ) (after : List ℕ)
+    → BlockTaken block before number count after
+    → (number ≡ 0 → ⊥)
+    → after ≡ before
+
+-- ---- Demand 2
+
+-- D2.1 Encoding is the polynomial sum of the published papers.
+
+-- bit q of parity a of these sources: the sum over all sources, shifted up by their entries, modulo 2
+abbrev pub sumBit : ℕ → ℕ → ℕ → List ℕ → List ℕ → ℕ → ℕ → ℕ
+sumBit k m l table sources a q = let D = desk k m l table 0 in parity D (sourcesOf D sources) a q
+
+-- packet i, a parity, where it stands among all parities, one after another
+abbrev pub parityIn : ℕ → ℕ → ℕ → List ℕ → List ℕ → ℕ → List ℕ
+parityIn k m l table parities i = let D = desk k m l table 0 in slice parities (placeOf D (leb k) i) (packetBytes D i)
+
+-- Encode all: parity a stands in its place, each of its bits is the sum, and past the sum's last bit stand noughts.
+abbrev pub ParitiesAreTheSum : Type 0
+ParitiesAreTheSum =
+    (k m l : ℕ) (table sources before after : List ℕ)
+    → EncodedAll k m l table sources before 0 after
+    → (a q : ℕ)
+    → a < m
+    → bitAt (parityIn k m l table after (k + a)) q ≡ sumBit k m l table sources a q
+
+abbrev pub NoughtsPastTheSum : Type 0
+NoughtsPastTheSum =
+    (k m l : ℕ) (table sources : List ℕ) (a q : ℕ) → a < m → packetBits (desk k m l table 0) (k + a) ≤ q → sumBit k m l table sources a q ≡ 0
+
+-- Encode one: a parity's bits are the sum, a source's are the source's.
+abbrev pub OneParityIsTheSum : Type 0
+OneParityIsTheSum =
+    (k m l : ℕ) (table sources before after : List ℕ) (a : ℕ)
+    → a < m
+    → EncodedOne k m l table (k + a + 1) sources before 0 after
+    → (q : ℕ)
+    → bitAt after q ≡ sumBit k m l table sources a q
+
+abbrev pub OneSourceIsTheSource : Type 0
+OneSourceIsTheSource =
+    (k m l : ℕ) (table sources before after : List ℕ) (c : ℕ)
+    → c < k
+    → EncodedOne k m l table (c + 1) sources before 0 after
+    → (q : ℕ)
+    → bitAt after q ≡ sourcesOf (desk k m l table 0) sources c q
+
+-- D2.2 Rebuilding from k packets gives the sources that encode to them;
+abbrev pub RebuildGivesTheSources : Type 0
+RebuildGivesTheSources =
+    (k m l : ℕ) (table : List ℕ) (marks : ℕ) (packets before : List ℕ) (count : ℕ) (after : List ℕ)
+    → Rebuilt k m l table marks packets before 0 count after
+    → EncodesTo (desk k m l table marks) packets after
+
+-- no others do.
+abbrev pub RebuildGivesTheOnlySources : Type 0
+RebuildGivesTheOnlySources =
+    (k m l : ℕ) (table : List ℕ) (marks : ℕ) (packets before : List ℕ) (count : ℕ) (after : List ℕ)
+    → Rebuilt k m l table marks packets before 0 count after
+    → (y : List ℕ)
+    → EncodesTo (desk k m l table marks) packets y
+    → y ≡ after
+
+-- Repair gives the packet of that number of those sources.
+abbrev pub RepairGivesThePacket : Type 0
+RepairGivesThePacket =
+    (k m l : ℕ) (table : List ℕ) (marks : ℕ) (packets before : List ℕ) (packet : ℕ) (after room : List ℕ) (count : ℕ) (sources : List ℕ)
+    → Repaired k m l table marks packets packet before 0 after
+    → Rebuilt k m l table marks packets room 0 count sources
+    → after ≡ packetOf (desk k m l table marks) sources (packet - 1)
+
+-- the bits of all missing sources
+abbrev pub everyBit : ℕ → ℕ → ℕ → ℕ
+everyBit k l marks = sourceBits l * count k (λ b. not (mark marks b))
+
+-- From the packets of sources, where differences grow, rebuild gives the sources back, after every bit of the missing ones.
+abbrev pub SurvivorsGiveTheSources : Type 0
+SurvivorsGiveTheSources =
+    (k m l : ℕ) (table : List ℕ) (marks : ℕ) (packets before sources : List ℕ)
+    → Bytes sources
+    → length sources ≡ sourcesBytes (desk k m l table marks)
+    → packets ≡ survivorsOf (desk k m l table marks) sources
+    → length before ≡ sourcesBytes (desk k m l table marks)
+    → Judged k m table 0 1
+    → Checked (markedChecks k m l table marks) 0
+    → (number count : ℕ) (after : List ℕ)
+    → Rebuilt k m l table marks packets before number count after
+    → (number ≡ 0) × (after ≡ sources) × (count ≡ everyBit k l marks)
+
+-- packet i, of the sources and of the parities that encode all wrote
+abbrev pub written : ℕ → ℕ → ℕ → List ℕ → List ℕ → List ℕ → ℕ → List ℕ
+written k m l table sources parities i = pick (ltb i k) (part sources (sourceBytes l) i) (parityIn k m l table parities i)
+
+-- Encoding, losing any m packets of a table with the judge's yes, and rebuilding gives the sources back, after every bit of the missing ones.
+abbrev pub EncodeLoseRebuild : Type 0
+EncodeLoseRebuild =
+    (k m l : ℕ) (table sources parities room : List ℕ)
+    → Bytes sources
+    → EncodedAll k m l table sources room 0 parities
+    → Judged k m table 0 1
+    → (marks : ℕ)
+    → Checked (markedChecks k m l table marks) 0
+    → (before : List ℕ)
+    → length before ≡ sourcesBytes (desk k m l table marks)
+    → (number count : ℕ) (after : List ℕ)
+    → Rebuilt k m l table marks (joined (mark marks) (written k m l table sources parities) (k + m)) before number count after
+    → (number ≡ 0) × (after ≡ sources) × (count ≡ everyBit k l marks)
+
+-- D2.3 once the shape is accepted and the walk does not stall, it refuses exactly when no sources do.
+
+-- the checks before 8: 1 2 3 6 7 4 5
+abbrev pub shapeAndLengths : ℕ → ℕ → ℕ → List ℕ → ℕ → List ℕ → List ℕ → Checks
+shapeAndLengths k m l table marks packets before =
+    markedChecks k m l table marks
+    ++ inputChecks (survivorsBytes (desk k m l table marks)) packets
+    ++ outputChecks (sourcesBytes (desk k m l table marks)) before
+
+abbrev pub RefusesExactly : Type 0
+RefusesExactly =
+    (k m l : ℕ) (table : List ℕ) (marks : ℕ) (packets before : List ℕ) (number count : ℕ) (after : List ℕ)
+    → Rebuilt k m l table marks packets before number count after
+    → Checked (shapeAndLengths k m l table marks packets before) 0
+    → (number ≡ 8 → ⊥)
+    → ((number ≡ 9) ⊎ (number ≡ 10)) ↔ ((x : List ℕ) → EncodesTo (desk k m l table marks) packets x → ⊥)
+
+-- It stalls exactly when no order of steps finishes all missing sources.
+abbrev pub StallsExactly : Type 0
+StallsExactly =
+    (k m l : ℕ) (table : List ℕ) (marks : ℕ) (packets before : List ℕ) (number count : ℕ) (after : List ℕ)
+    → Rebuilt k m l table marks packets before number count after
+    → Checked (shapeAndLengths k m l table marks packets before) 0
+    → (number ≡ 8) ↔ ((n : ℕ) → Finishes (desk k m l table marks) n → ⊥)
+
+-- D2.4 A block is taken exactly when it is a lone I-block under ISO/IEC 7816-3 by our rules and fits.
+abbrev pub BlockTakenExactly : Type 0
+BlockTakenExactly =
+    (block before : List ℕ) (number count : ℕ) (after : List ℕ)
+    → Bytes block
+    → BlockTaken block before number count after
+    → (number ≡ 0) ↔ ((info : List ℕ) × LoneBlock block info × (length info ≤ length before))
+
+-- Then the destination begins with its information, and goes on as it was.
+abbrev pub BlockGivesItsInformation : Type 0
+BlockGivesItsInformation =
+    (block before : List ℕ) (count : ℕ) (after info : List ℕ)
+    → Bytes block
+    → BlockTaken block before 0 count after
+    → LoneBlock block info
+    → (count ≡ length info) × (after ≡ info ++ drop (length info) before)
+
+-- ---- Demand 3: Take any accepted shift table and k different packets.
+
+-- D3.1 A step uncovers a bit that stands, in one parity at hand, lower than the next bit of every other unfinished missing source.
+
+-- at progress g, the next bit of source b stands in parity a lower than that of every other unfinished missing source
+abbrev pub Lower : Desk → (ℕ → ℕ) → ℕ → ℕ → Type 0
+Lower D g a b = (c : ℕ) → b ≢ c → Free D g c → D .shift a b + g b < D .shift a c + g c
+
+-- a parity and a source, from 1, and the progress after the step that they make
+pub record StandsLower (D : Desk) (progress : List ℕ) (parity source : ℕ) (after : List ℕ) : Type 0 where
+  pub a : ℕ
+  pub b : ℕ
+  pub parity-is : parity ≡ a + 1
+  pub source-is : source ≡ b + 1
+  pub at-hand : Held D a
+  pub unfinished : Free D (at progress) b
+  pub lower : Lower D (at progress) a b
+  pub uncovers : after ≡ set progress b (at progress b + 1)
+
+abbrev pub StepStandsLower : Type 0
+StepStandsLower =
+    (k m l : ℕ) (table : List ℕ) (marks : ℕ) (progress : List ℕ) (parity source : ℕ) (after : List ℕ)
+    → Stepped k m l table marks progress 0 parity source after
+    → (parity ≡ 0 → ⊥)
+    → StandsLower (desk k m l table marks) progress parity source after
+
+-- So does each step of every order, at the progress that the steps before it reach.
+abbrev pub EachStepStandsLower : Type 0
+EachStepStandsLower =
+    (k m l : ℕ) (table : List ℕ) (marks : ℕ) (o o′ : Order) (a b : ℕ) (h : ℕ → ℕ)
+    → let D = desk k m l table marks in
+    Run D (λ c. 0) (o ++ (a, b) ∷ o′) h
+    → (g : ℕ → ℕ) × Run D (λ c. 0) o g × Held D a × Free D g b × Lower D g a b
+
+-- D3.2 All orders of steps, run until none is left, end at the same place after the same count.
+abbrev pub AllOrdersEndAlike : Type 0
+AllOrdersEndAlike =
+    (k m l : ℕ) (table : List ℕ) (marks : ℕ) (o o′ : Order) (h h′ : ℕ → ℕ)
+    → let D = desk k m l table marks in
+    Run D (λ c. 0) o h
+    → Stuck D h
+    → Run D (λ c. 0) o′ h′
+    → Stuck D h′
+    → (length o ≡ length o′) × (h ≡ h′)
+
+-- Each has an end: no order is longer than every bit.
+abbrev pub EveryOrderEnds : Type 0
+EveryOrderEnds =
+    (k m l : ℕ) (table : List ℕ) (marks : ℕ) (o : Order) (h : ℕ → ℕ) → Run (desk k m l table marks) (λ c. 0) o h → length o ≤ everyBit k l marks
+
+-- Walk tells that place and that count.
+abbrev pub WalkTells : Type 0
+WalkTells =
+    (k m l : ℕ) (table : List ℕ) (marks count whole : ℕ) (progress : List ℕ)
+    → Walked k m l table marks 0 count whole progress
+    → (o : Order) (h : ℕ → ℕ)
+    → Run (desk k m l table marks) (λ c. 0) o h
+    → Stuck (desk k m l table marks) h
+    → (length o ≡ count) × (h ≡ at progress)
+
+-- "No order of steps finishes all missing sources" is the same as "walk says it is not whole".
+abbrev pub NoneFinishesExactly : Type 0
+NoneFinishesExactly =
+    (k m l : ℕ) (table : List ℕ) (marks count whole : ℕ) (progress : List ℕ)
+    → Walked k m l table marks 0 count whole progress
+    → let D = desk k m l table marks in
+    (whole ≡ 0) ↔ ((o : Order) (h : ℕ → ℕ) → Run D (λ c. 0) o h → Whole D h → ⊥)
+
+-- D3.3 Where differences grow down the table, that is every bit: eight times the source length in bytes for each missing source.
+abbrev pub GrowingOrderIsWhole : Type 0
+GrowingOrderIsWhole =
+    (k m l : ℕ) (table : List ℕ) (marks count whole : ℕ) (progress : List ℕ)
+    → Judged k m table 0 1
+    → Walked k m l table marks 0 count whole progress
+    → (o : Order) (h : ℕ → ℕ)
+    → let D = desk k m l table marks in
+    Run D (λ c. 0) o h
+    → Stuck D h
+    → Whole D h × (length o ≡ everyBit k l marks)
+
+abbrev pub GrowingWalkIsWhole : Type 0
+GrowingWalkIsWhole =
+    (k m l : ℕ) (table : List ℕ) (marks count whole : ℕ) (progress : List ℕ)
+    → Judged k m table 0 1
+    → Walked k m l table marks 0 count whole progress
+    → (whole ≡ 1) × (count ≡ everyBit k l marks)
+
+-- What the family call writes gets the judge's yes, for all k and m.
+abbrev pub FamilyGetsYes : Type 0
+FamilyGetsYes =
+    (k m : ℕ) (before table : List ℕ) (number growing : ℕ)
+    → FamilyWritten k m before 0 table
+    → Judged k m table number growing
+    → (number ≡ 0) × (growing ≡ 1)
+
+-- D3.4 If the packets were encoded from sources, every order reads those sources' bits.
+
+-- the parities at hand of r and the present sources of s come from the sources x, and s has noughts for the missing ones
+abbrev pub ComesFrom : Desk → Bits → Bits → Bits → Type 0
+ComesFrom D r s x = ((c p : ℕ) → Gone D c → s c p ≡ 0) × Encodes D r s x
+
+abbrev pub EveryOrderReadsTheSources : Type 0
+EveryOrderReadsTheSources =
+    (k m l : ℕ) (table : List ℕ) (marks : ℕ) (r s x : Bits) (o : Order) (h : ℕ → ℕ)
+    → let D = desk k m l table marks in
+    ComesFrom D r s x
+    → (u : Run D (λ c. 0) o h) (c p : ℕ)
+    → Gone D c
+    → p < h c
+    → readBy D r u s c p ≡ x c p
+
+-- An order that finishes has then read them whole.
+abbrev pub FinishedOrderHasTheSources : Type 0
+FinishedOrderHasTheSources =
+    (k m l : ℕ) (table : List ℕ) (marks : ℕ) (r s x : Bits) (o : Order) (h : ℕ → ℕ)
+    → let D = desk k m l table marks in
+    ComesFrom D r s x
+    → (u : Run D (λ c. 0) o h)
+    → Whole D h
+    → (c p : ℕ)
+    → c < k
+    → readBy D r u s c p ≡ x c p
+
+-- So from any sources' own parities, and those of them that are present, every order reads their bits.
+abbrev pub EveryOrderReadsWhatWasEncoded : Type 0
+EveryOrderReadsWhatWasEncoded =
+    (k m l : ℕ) (table : List ℕ) (marks : ℕ) (x : Bits) (o : Order) (h : ℕ → ℕ)
+    → let D = desk k m l table marks in
+    Source D x
+    → (u : Run D (λ c. 0) o h) (c p : ℕ)
+    → Gone D c
+    → p < h c
+    → readBy D (parity D x) u (presentOf D x) c p ≡ x c p
+
+-- D3.5 Our rebuild reports this count, done or stalled.
+-- It is that of every order of steps, run until none is left.
+abbrev pub RebuildCountsEveryOrder : Type 0
+RebuildCountsEveryOrder =
+    (k m l : ℕ) (table : List ℕ) (marks : ℕ) (packets before : List ℕ) (number count : ℕ) (after : List ℕ)
+    → Rebuilt k m l table marks packets before number count after
+    → (number ≡ 0) ⊎ (number ≡ 8)
+    → (o : Order) (h : ℕ → ℕ)
+    → Run (desk k m l table marks) (λ c. 0) o h
+    → Stuck (desk k m l table marks) h
+    → count ≡ length o

@@ -1,0 +1,127 @@
+-- The starred examples of document 01, each on a line and by name: a call, its input and its answer. proofs/Examples proves that every answer meets its call's promise.
+use mathlib.Core.Path.{_≡_}
+use mathlib.Core.List.{List, [], _∷_}
+use Prim.Native.Nat.{ℕ}
+use Rattle.table.specs.Desk.{desk, reach}
+use Rattle.family.specs.Promise.{FamilyWritten, Judged}
+use Rattle.encode.specs.Promise.{EncodedAll}
+use Rattle.walk.specs.Promise.{Walked}
+use Rattle.rebuild.specs.Promise.{Rebuilt}
+use Rattle.card.specs.Promise.{BlockTaken}
+
+-- a call with its input and its answer; where a call lends an output, what it held before
+pub data Example : Type 0 where
+  family : (k m : ℕ) (before table : List ℕ) → Example
+  largest : (k m : ℕ) (table : List ℕ) (r : ℕ) → Example
+  judge : (k m : ℕ) (table : List ℕ) (growing : ℕ) → Example
+  encode : (k m l : ℕ) (table sources before parities : List ℕ) → Example
+  walk : (k m l : ℕ) (table : List ℕ) (marks count whole : ℕ) (progress : List ℕ) → Example
+  rebuild : (k m l : ℕ) (table : List ℕ) (marks : ℕ) (packets before : List ℕ) (number count : ℕ) (after : List ℕ) → Example
+  block : (bytes before : List ℕ) (count : ℕ) (after : List ℕ) → Example
+
+-- the answer, with number 0 where no other is said, meets the call's promise
+abbrev pub Met : Example → Type 0
+Met (family k m before table) = FamilyWritten k m before 0 table
+Met (largest k m table r) = (a : ℕ) → reach (desk k m 0 table 0) a ≡ r
+Met (judge k m table growing) = Judged k m table 0 growing
+Met (encode k m l table sources before parities) = EncodedAll k m l table sources before 0 parities
+Met (walk k m l table marks count whole progress) = Walked k m l table marks 0 count whole progress
+Met (rebuild k m l table marks packets before number count after) = Rebuilt k m l table marks packets before number count after
+Met (block bytes before count after) = BlockTaken bytes before 0 count after
+
+-- ---- tables
+
+abbrev pub house : List ℕ
+house = 0 ∷ 1 ∷ 0 ∷ 2 ∷ []
+
+abbrev pub house3 : List ℕ
+house3 = 0 ∷ 1 ∷ 2 ∷ 0 ∷ 2 ∷ 4 ∷ 0 ∷ 3 ∷ 6 ∷ []
+
+abbrev pub seven : List ℕ
+seven = 0 ∷ 7 ∷ 0 ∷ 7 ∷ []
+
+abbrev pub eight : List ℕ
+eight = 0 ∷ 8 ∷ 0 ∷ 8 ∷ []
+
+-- three rows of which no bit is bare
+abbrev pub stuck : List ℕ
+stuck = 0 ∷ 0 ∷ 5 ∷ 0 ∷ 5 ∷ 0 ∷ 5 ∷ 0 ∷ 0 ∷ []
+
+-- ---- the examples
+
+-- their names: the call, and what is at hand
+pub data Name : Type 0 where
+  family-three largest-three : Name
+  encode-ones encode-high-bits : Name
+  judge-house judge-seven judge-eight : Name
+  walk-both-parities walk-one-parity walk-no-parity walk-seven walk-eight walk-stuck : Name
+  rebuild-both-parities rebuild-one-parity rebuild-no-parity rebuild-high-bits : Name
+  rebuild-one-above rebuild-no-sources rebuild-seven rebuild-eight rebuild-stuck : Name
+  block-two-bytes block-two-bytes-next block-no-bytes : Name
+
+-- bytes that a call is lent are 9; where a call has numbers k, m and L these are its first
+abbrev pub example : Name → Example
+example family-three = family 3 3 (9 ∷ 9 ∷ 9 ∷ 9 ∷ 9 ∷ 9 ∷ 9 ∷ 9 ∷ 9 ∷ []) house3
+example largest-three = largest 3 3 house3 6
+example encode-ones = encode 2 2 1 house (0x01 ∷ 0x01 ∷ []) (9 ∷ 9 ∷ 9 ∷ 9 ∷ []) (0x03 ∷ 0x00 ∷ 0x05 ∷ 0x00 ∷ [])
+example encode-high-bits = encode 2 2 1 house (0x80 ∷ 0xC0 ∷ []) (9 ∷ 9 ∷ 9 ∷ 9 ∷ []) (0x00 ∷ 0x01 ∷ 0x80 ∷ 0x03 ∷ [])
+example judge-house = judge 2 2 house 1
+example judge-seven = judge 2 2 seven 0
+example judge-eight = judge 2 2 eight 0
+example walk-both-parities = walk 2 2 1 house 12 16 1 (8 ∷ 8 ∷ 0 ∷ 0 ∷ 0 ∷ 0 ∷ 0 ∷ 0 ∷ [])
+example walk-one-parity = walk 2 2 1 house 9 8 1 (0 ∷ 8 ∷ 0 ∷ 0 ∷ 0 ∷ 0 ∷ 0 ∷ 0 ∷ [])
+example walk-no-parity = walk 2 2 1 house 3 0 1 (0 ∷ 0 ∷ 0 ∷ 0 ∷ 0 ∷ 0 ∷ 0 ∷ 0 ∷ [])
+example walk-seven = walk 2 2 1 seven 12 7 0 (7 ∷ 0 ∷ 0 ∷ 0 ∷ 0 ∷ 0 ∷ 0 ∷ 0 ∷ [])
+example walk-eight = walk 2 2 1 eight 12 16 1 (8 ∷ 8 ∷ 0 ∷ 0 ∷ 0 ∷ 0 ∷ 0 ∷ 0 ∷ [])
+example walk-stuck = walk 3 3 1 stuck 56 0 0 (0 ∷ 0 ∷ 0 ∷ 0 ∷ 0 ∷ 0 ∷ 0 ∷ 0 ∷ [])
+example rebuild-both-parities = rebuild 2 2 1 house 12 (0x03 ∷ 0x00 ∷ 0x05 ∷ 0x00 ∷ []) (9 ∷ 9 ∷ []) 0 16 (0x01 ∷ 0x01 ∷ [])
+example rebuild-one-parity = rebuild 2 2 1 house 9 (0x01 ∷ 0x05 ∷ 0x00 ∷ []) (9 ∷ 9 ∷ []) 0 8 (0x01 ∷ 0x01 ∷ [])
+example rebuild-no-parity = rebuild 2 2 1 house 3 (0x01 ∷ 0x01 ∷ []) (9 ∷ 9 ∷ []) 0 0 (0x01 ∷ 0x01 ∷ [])
+-- seven unknown bits lie below the lowest one; not in document 01
+example rebuild-high-bits = rebuild 2 2 1 house 12 (0x00 ∷ 0x01 ∷ 0x80 ∷ 0x03 ∷ []) (9 ∷ 9 ∷ []) 0 16 (0x80 ∷ 0xC0 ∷ [])
+example rebuild-one-above = rebuild 2 2 1 house 12 (0x03 ∷ 0x00 ∷ 0x05 ∷ 0x04 ∷ []) (9 ∷ 9 ∷ []) 9 0 (9 ∷ 9 ∷ [])
+example rebuild-no-sources = rebuild 2 2 1 house 12 (0x03 ∷ 0x00 ∷ 0x05 ∷ 0x01 ∷ []) (9 ∷ 9 ∷ []) 10 0 (9 ∷ 9 ∷ [])
+example rebuild-seven = rebuild 2 2 1 seven 12 (0x03 ∷ 0x00 ∷ 0x05 ∷ 0x00 ∷ []) (9 ∷ 9 ∷ []) 8 7 (9 ∷ 9 ∷ [])
+example rebuild-eight = rebuild 2 2 1 eight 12 (0x01 ∷ 0x01 ∷ 0x01 ∷ 0x01 ∷ []) (9 ∷ 9 ∷ []) 0 16 (0x01 ∷ 0x01 ∷ [])
+example rebuild-stuck = rebuild 3 3 1 stuck 56 (1 ∷ 2 ∷ 3 ∷ 4 ∷ 5 ∷ 6 ∷ []) (9 ∷ 9 ∷ 9 ∷ []) 8 0 (9 ∷ 9 ∷ 9 ∷ [])
+example block-two-bytes = block (0x00 ∷ 0x00 ∷ 0x02 ∷ 0xAA ∷ 0x55 ∷ 0xFD ∷ []) (1 ∷ 2 ∷ 3 ∷ 4 ∷ []) 2 (0xAA ∷ 0x55 ∷ 3 ∷ 4 ∷ [])
+example block-two-bytes-next = block (0x00 ∷ 0x40 ∷ 0x02 ∷ 0xAA ∷ 0x55 ∷ 0xBD ∷ []) (1 ∷ 2 ∷ 3 ∷ 4 ∷ []) 2 (0xAA ∷ 0x55 ∷ 3 ∷ 4 ∷ [])
+example block-no-bytes = block (0x00 ∷ 0x00 ∷ 0x00 ∷ 0x00 ∷ []) (1 ∷ 2 ∷ 3 ∷ 4 ∷ []) 0 (1 ∷ 2 ∷ 3 ∷ 4 ∷ [])
+
+-- the one list
+abbrev pub examples : List Name
+examples =
+    family-three
+    ∷ largest-three
+    ∷ encode-ones
+    ∷ encode-high-bits
+    ∷ judge-house
+    ∷ judge-seven
+    ∷ judge-eight
+    ∷ walk-both-parities
+    ∷ walk-one-parity
+    ∷ walk-no-parity
+    ∷ walk-seven
+    ∷ walk-eight
+    ∷ walk-stuck
+    ∷ rebuild-both-parities
+    ∷ rebuild-one-parity
+    ∷ rebuild-no-parity
+    ∷ rebuild-high-bits
+    ∷ rebuild-one-above
+    ∷ rebuild-no-sources
+    ∷ rebuild-seven
+    ∷ rebuild-eight
+    ∷ rebuild-stuck
+    ∷ block-two-bytes
+    ∷ block-two-bytes-next
+    ∷ block-no-bytes
+    ∷ []
+
+-- every answer of a list of examples meets its call's promise
+abbrev pub AllMet : List Name → Type 0
+AllMet [] = Unit
+AllMet (n ∷ ns) = Met (example n) × AllMet ns
+
+abbrev pub ExamplesMet : Type 0
+ExamplesMet = AllMet examples

@@ -1,0 +1,243 @@
+#include "draw_question.h"
+
+#include "model.h"
+#include "random.h"
+
+#include <string.h>
+
+void set_bytes(bytes *to, uint64_t length)
+{
+    to->length = (size_t)length;
+    random_bytes(to->at, to->length);
+}
+
+void set_house_table(question *q)
+{
+    q->table.length = (size_t)(q->m * q->k);
+    for (size_t i = 0; i < q->table.length; i++) {
+        q->table.at[i] = (uint8_t)((i / q->k + 1) * (i % q->k));
+    }
+}
+
+question house_question(uint64_t k, uint64_t m, uint64_t l)
+{
+    question q = {0};
+    q.k = k;
+    q.m = m;
+    q.l = l;
+    set_house_table(&q);
+    return q;
+}
+
+question largest_question(void)
+{
+    return house_question(WH_MAX_K, WH_MAX_M, WH_MAX_LENGTH);
+}
+
+static void set_table_below(question *q, uint64_t bound)
+{
+    q->table.length = (size_t)(q->m * q->k);
+    for (size_t i = 0; i < q->table.length; i++) {
+        q->table.at[i] = (uint8_t)random_below(bound);
+    }
+}
+
+/* One entry of the house table changed, or the whole of it moved up. */
+static void set_bent_house_table(question *q)
+{
+    set_house_table(q);
+    q->table.at[random_below(q->table.length)] = (uint8_t)random_below(WH_MAX_SHIFT + 1);
+}
+
+static void set_raised_house_table(question *q)
+{
+    set_house_table(q);
+    uint8_t raise = (uint8_t)random_below(WH_MAX_SHIFT + 1 - largest_entry(q));
+    for (size_t i = 0; i < q->table.length; i++) {
+        q->table.at[i] = (uint8_t)(q->table.at[i] + raise);
+    }
+}
+
+void draw_table(question *q)
+{
+    switch (random_below(8)) {
+    case 0:
+    case 1:
+    case 2:
+        set_house_table(q);
+        break;
+    case 3:
+        set_raised_house_table(q);
+        break;
+    case 4:
+        set_bent_house_table(q);
+        break;
+    default:
+        set_table_below(q, random_between(1, WH_MAX_SHIFT + 1));
+    }
+}
+
+void draw_small_shape(question *q, uint64_t most, uint64_t longest)
+{
+    memset(q, 0, sizeof *q);
+    q->k = random_between(1, most);
+    q->m = random_between(1, most);
+    q->l = random_between(1, longest);
+    draw_table(q);
+}
+
+/* Mostly short sources, sometimes long ones, sometimes the longest. */
+void draw_shape(question *q)
+{
+    static const uint64_t longest[] = {2, 2, 4, 4, 9, WH_MAX_LENGTH};
+    draw_small_shape(q, WH_MAX_K, longest[random_below(6)]);
+    if (random_below(40) == 0) {
+        q->l = WH_MAX_LENGTH;
+    }
+}
+
+bool next_choice(question *q)
+{
+    do {
+        q->marks++;
+    } while (marked_shape_number(q) == WH_MARKS);
+    return marked_shape_number(q) == WH_DONE;
+}
+
+void draw_marks(question *q)
+{
+    q->marks = 0;
+    for (uint64_t set = 0; set < q->k;) {
+        uint64_t mark = (uint64_t)1 << random_below(q->k + q->m);
+        set += (q->marks & mark) == 0 ? 1 : 0;
+        q->marks |= mark;
+    }
+}
+
+void lose_every_source(question *q)
+{
+    q->marks = (((uint64_t)1 << q->k) - 1) << q->k;
+}
+
+void fit_sources(question *q, uint64_t output_length)
+{
+    set_bytes(&q->input, q->k * q->l);
+    set_bytes(&q->output, output_length);
+}
+
+void fit_survivors(question *q, uint64_t output_length)
+{
+    fit_sources(q, output_length);
+    bytes sources = q->input;
+    q->input.length = (size_t)survivors_bytes(q);
+    encode_survivors(q, sources.at, q->input.at);
+}
+
+/* A bit turned over, a byte set, the last byte of a parity spoiled, or nothing left as it was. */
+void damage(bytes *packets)
+{
+    uint8_t *byte = &packets->at[random_below(packets->length)];
+    switch (random_below(5)) {
+    case 0:
+    case 1:
+        *byte ^= (uint8_t)(1 << random_below(8));
+        break;
+    case 2:
+        *byte = (uint8_t)random_below(256);
+        break;
+    case 3:
+        packets->at[packets->length - 1] ^= (uint8_t)(0x80 >> random_below(8));
+        break;
+    default:
+        random_bytes(packets->at, packets->length);
+    }
+}
+
+void draw_for_family_table(question *q)
+{
+    draw_shape(q);
+    set_bytes(&q->output, q->m * q->k);
+}
+
+void draw_for_judge(question *q)
+{
+    draw_shape(q);
+}
+
+void draw_for_packet_length(question *q)
+{
+    draw_shape(q);
+    q->packet = random_between(1, q->k + q->m);
+}
+
+void draw_for_survivors_length(question *q)
+{
+    draw_shape(q);
+    draw_marks(q);
+}
+
+void draw_for_encode_all(question *q)
+{
+    draw_shape(q);
+    fit_sources(q, q->m * packet_bytes(q, q->k + 1));
+}
+
+void draw_for_encode_one(question *q)
+{
+    draw_for_packet_length(q);
+    fit_sources(q, packet_bytes(q, q->packet));
+}
+
+void draw_for_walk(question *q)
+{
+    draw_for_survivors_length(q);
+}
+
+/* Progress that the range allows, most of it such that no walk comes there. */
+void draw_for_next_step(question *q)
+{
+    draw_for_survivors_length(q);
+    for (uint64_t b = 1; b <= q->k; b++) {
+        q->progress[b - 1] = missing(q, b) ? random_between(0, source_bits(q)) : 0;
+    }
+}
+
+void draw_for_rebuild(question *q)
+{
+    draw_for_survivors_length(q);
+    fit_survivors(q, q->k * q->l);
+    if (random_below(2) == 0) {
+        damage(&q->input);
+    }
+}
+
+void draw_for_repair(question *q)
+{
+    draw_for_rebuild(q);
+    q->packet = random_between(1, q->k + q->m);
+    set_bytes(&q->output, packet_bytes(q, q->packet));
+}
+
+void draw_for_look(question *q)
+{
+    draw_for_survivors_length(q);
+    q->source = random_between(1, q->k);
+    set_bytes(&q->input, survivors_bytes(q));
+    set_bytes(&q->rebuilt, q->k * q->l);
+}
+
+/* A good block, and a destination that may be too short. */
+void draw_for_block(question *q)
+{
+    uint8_t information = (uint8_t)random_below(255);
+    memset(q, 0, sizeof *q);
+    set_bytes(&q->input, (uint64_t)information + 4);
+    set_bytes(&q->output, random_below(300));
+    q->input.at[0] = 0;
+    q->input.at[1] = random_below(2) == 0 ? 0x00 : 0x40;
+    q->input.at[2] = information;
+    q->input.at[information + 3] = 0;
+    for (size_t i = 0; i < (size_t)information + 3; i++) {
+        q->input.at[information + 3] ^= q->input.at[i];
+    }
+}

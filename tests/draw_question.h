@@ -1,0 +1,56 @@
+/* Drawing questions: good ones for each call, and ways to spoil them. */
+#ifndef DRAW_QUESTION_H
+#define DRAW_QUESTION_H
+
+#include "question.h"
+
+#include <stdbool.h>
+
+/* A question with this shape, or one at the limits, and the house table, and nothing else yet. */
+question house_question(uint64_t k, uint64_t m, uint64_t l);
+question largest_question(void);
+
+/* Goes to the next choice of exactly k marks, from marks 0 on; false after the last. */
+bool next_choice(question *q);
+
+/* Parts. The shape is k, m, l and a table of one of several kinds; the marks are exactly k. */
+void draw_shape(question *q);
+void draw_small_shape(question *q, uint64_t most, uint64_t longest);
+void draw_table(question *q);
+void draw_marks(question *q);
+void lose_every_source(question *q); /* parities 1 to k are at hand */
+void set_house_table(question *q);
+void set_bytes(bytes *to, uint64_t length); /* that many random bytes */
+
+/* Input and output that fit a shape and marks which are already there. */
+void fit_sources(question *q, uint64_t output_length);
+void fit_survivors(question *q, uint64_t output_length); /* encoded from random sources */
+void damage(bytes *packets);
+
+/* Whole questions, one maker for each call. */
+void draw_for_family_table(question *q);
+void draw_for_judge(question *q);
+void draw_for_packet_length(question *q);
+void draw_for_survivors_length(question *q);
+void draw_for_encode_all(question *q);
+void draw_for_encode_one(question *q);
+void draw_for_walk(question *q);
+void draw_for_next_step(question *q);
+void draw_for_rebuild(question *q);
+void draw_for_repair(question *q);
+void draw_for_look(question *q);
+void draw_for_block(question *q);
+
+/* Spoiling one place, at random or with a chosen value of the row of telling ones. The places are
+ * six numbers, each source's progress, four lengths, and any byte of the table and of the input. */
+enum {
+    PROGRESS_PLACE = 6,
+    LENGTH_PLACE = PROGRESS_PLACE + WH_MAX_K,
+    BYTE_PLACE = LENGTH_PLACE + 4,
+    SPOILED_PLACES = BYTE_PLACE + 2,
+    TELLING_VALUES = 26
+};
+void spoil(question *q);
+void spoil_place(question *q, size_t place, size_t value);
+
+#endif

@@ -1,0 +1,66 @@
+/* Document 01's limits and its list of numbers. Digits stand for them here and nowhere else: all
+ * other files say their names, so a name that had another value would be found out here. */
+#include "check.h"
+#include "windhawker_limits.h"
+
+typedef struct {
+    const char *name;
+    int value;
+    int in_document_01;
+} pinned;
+
+static void expect_pinned(const pinned *names, size_t count)
+{
+    for (size_t i = 0; i < count; i++) {
+        if (names[i].value != names[i].in_document_01) {
+            fail("%s is %d, not %d", names[i].name, names[i].value, names[i].in_document_01);
+        }
+    }
+}
+
+static void limits(void)
+{
+    static const pinned names[] = {
+        {"WH_MAX_K", WH_MAX_K, 8},
+        {"WH_MAX_M", WH_MAX_M, 8},
+        {"WH_MAX_LENGTH", WH_MAX_LENGTH, 56},
+        {"WH_MAX_SHIFT", WH_MAX_SHIFT, 64},
+        {"WH_LONGEST", WH_LONGEST, 64},
+    };
+    expect_pinned(names, sizeof names / sizeof names[0]);
+}
+
+static void numbers(void)
+{
+    static const pinned names[] = {
+        {"WH_DONE", WH_DONE, 0},
+        {"WH_SIZE", WH_SIZE, 1},
+        {"WH_LENGTH", WH_LENGTH, 2},
+        {"WH_TABLE", WH_TABLE, 3},
+        {"WH_INPUT", WH_INPUT, 4},
+        {"WH_OUTPUT", WH_OUTPUT, 5},
+        {"WH_PACKET", WH_PACKET, 6},
+        {"WH_MARKS", WH_MARKS, 7},
+        {"WH_STALL", WH_STALL, 8},
+        {"WH_STRAY", WH_STRAY, 9},
+        {"WH_FOREIGN", WH_FOREIGN, 10},
+        {"WH_BLOCK_SHORT", WH_BLOCK_SHORT, 11},
+        {"WH_BLOCK_RESERVED", WH_BLOCK_RESERVED, 12},
+        {"WH_BLOCK_LENGTH", WH_BLOCK_LENGTH, 13},
+        {"WH_BLOCK_SUM", WH_BLOCK_SUM, 14},
+        {"WH_BLOCK_HEADER", WH_BLOCK_HEADER, 15},
+        {"WH_ROOM", WH_ROOM, 16},
+        {"WH_PROGRESS", WH_PROGRESS, 17},
+        {"WH_LINE", WH_LINE, 18},
+    };
+    expect_pinned(names, sizeof names / sizeof names[0]);
+}
+
+int main(void)
+{
+    static const named_test tests[] = {
+        {"pinned_limits", limits},
+        {"pinned_numbers", numbers},
+    };
+    return run_named_tests(tests, sizeof tests / sizeof tests[0]);
+}
