@@ -20,6 +20,24 @@ say() {
     echo "$*" | tee -a "$results"
 }
 
+# Keeps what a test printed with the results, its last line ended: what is said next stands at the
+# start of a line, where it counts.
+keep() { # FILE
+    awk 1 "$1" >>"$results"
+}
+
+# One that ends badly and says FAIL of nothing counts as a failed test.
+tell_end() { # NAME STATUS FILE
+    [ "$2" = 0 ] || grep -q '^FAIL ' "$3" || say "FAIL $1: ended with status $2"
+}
+
+# The archive can be read, and wants nothing of the world but these.
+needs_only_memory_functions() { # ARCHIVE
+    needed=$("${prefix-}nm" --undefined-only "$1") || return 1
+    ! echo "$needed" | awk '$1 == "U" { print $2 }' | sort -u |
+        grep -vx -e memcpy -e memmove -e memset
+}
+
 # Prints the last line of all; fails unless all passed.
 add_up() {
     passed=$(grep -c '^ok ' "$results")
