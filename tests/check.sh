@@ -31,6 +31,15 @@ tell_end() { # NAME STATUS FILE
     [ "$2" = 0 ] || grep -q '^FAIL ' "$3" || say "FAIL $1: ended with status $2"
 }
 
+# Runs a script that says ok and FAIL itself: shows and keeps what it prints, and tells a bad end.
+tell() { # NAME FILE COMMAND WORDS...
+    told=$1 out=$2
+    shift 2
+    { "$@" 2>&1; echo $? >"$out.ended"; } | tee "$out"
+    keep "$out"
+    tell_end "$told" "$(cat "$out.ended")" "$out"
+}
+
 # The archive can be read, and wants nothing of the world but these.
 needs_only_memory_functions() { # ARCHIVE
     needed=$("${prefix-}nm" --undefined-only "$1") || return 1

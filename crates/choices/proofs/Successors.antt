@@ -66,11 +66,15 @@ module _ (k m : ℕ) where
         let whole : length held ≡ length ids + (maxK - length ids) = ap length (h .held-is) ∙ length-append ids _ ∙ ap (λ n. length ids + n) (length-replicate (maxK - length ids) 0) in
         omega (arith, h .choice .size, s .k-high)
 
-    -- the numbers of a choice that is held are packet numbers
+    -- the numbers of a choice that is held rise, none above k + m
+    pub held-rises-to-n : {ids : List ℕ} → Holding k m held ids → Rising 0 (k + m) (take k held)
+    held-rises-to-n h = subst (Rising 0 (k + m)) (held-take h .0) (h .choice .rising)
+
+    -- so they are packet numbers
     pub held-rises : {ids : List ℕ} → Holding k m held ids → Rising 0 (maxK + maxM) (take k held)
     held-rises h =
         let s = sized k m (h .sized) in
-        rising-to (k + m) 0 (maxK + maxM) (take k held) (omega (arith, s .k-high, s .m-high)) (subst (Rising 0 (k + m)) (held-take h .0) (h .choice .rising))
+        rising-to (k + m) 0 (maxK + maxM) (take k held) (omega (arith, s .k-high, s .m-high)) (held-rises-to-n h)
 
     -- and not noughts
     pub held-not-noughts : {ids : List ℕ} → Holding k m held ids → held ≡ noughts → ⊥

@@ -10,7 +10,7 @@ use Rattle.table.specs.Desk.{desk, sourceBytes}
 use Rattle.table.specs.Checks.{Checks, Answered, shapeChecks}
 use Rattle.look.specs.Stages.{Stands, foundChecks}
 
--- 1 2 3 6 7 4
+-- 1 2 3 6 7 4 4
 abbrev pub lookChecks : ℕ → ℕ → ℕ → List ℕ → ℕ → ℕ → List ℕ → List ℕ → Checks
 lookChecks k m l table marks source survivors rebuilt =
     shapeChecks k m l table ++ foundChecks (desk k m l table marks) marks source survivors rebuilt

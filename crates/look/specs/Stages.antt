@@ -14,7 +14,7 @@ module _ (D : Desk) where
   abbrev pub buffersChecks : List ℕ → List ℕ → Checks
   buffersChecks survivors rebuilt = inputChecks (survivorsBytes D) survivors ++ inputChecks (sourcesBytes D) rebuilt
 
-  -- 6 7 4
+  -- 6 7 4 4
   abbrev pub foundChecks : ℕ → ℕ → List ℕ → List ℕ → Checks
   foundChecks marks source survivors rebuilt = askedChecks k m marks k source ++ buffersChecks survivors rebuilt
 

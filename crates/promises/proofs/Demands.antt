@@ -5,50 +5,76 @@ use mathlib.Core.List.{List, _++_, []}
 use mathlib.Core.Bool.{Bool}
 use Prim.Native.Nat.{ℕ, _+_, _-_, _*_, _/_, _%_, _≤_, _<_, zero, suc}
 use native.Mathlib.Omega.{arith}
-use native.Mathlib.Nat.{mul-le-mul, div-add-mod'}
 use native.Mathlib.Decide.{decLt}
 use lib.Dec.{leb}
 use borrow.Author.Tests.{le-leb, lt-ltb, le-ltb}
 use lib.ListN.{length}
 use Rattle.bits.specs.Sums.{at, pick}
-use Rattle.bits.specs.Bits.{bitAt, joined}
+use Rattle.bits.specs.Bits.{Bytes, bitAt, joined}
 use Rattle.bits.proofs.ByteLaws.{part-joined, joined-length}
-use Rattle.table.specs.Limits.{maxK, maxM, maxShift}
 use Rattle.table.specs.Desk.{Desk, desk, sourcesBytes, packetBytes, paritiesBytes, survivorsBytes, placeOf, Grows, mark}
-use Rattle.table.specs.Table.{houseShift}
-use Rattle.table.specs.Checks.{Checks, Checked, sizeChecks, tableChecks, outputChecks, shapeChecks, inputChecks, markedChecks}
-use Rattle.family.specs.Promise.{HouseTable, Judged, judgeChecks}
-use Rattle.table.proofs.CheckLaws.{numbered-by, Sized, checked-once, passed, goes, neither, sized, exactly-long, lengths-exact, rest-decides, flag-up, flag-holds, flag-down, flag-low}
-use Rattle.table.proofs.TableLaws.{at-past, entry-in, row-in}
+use Rattle.table.specs.Checks.{Checks, Checked, theList, sizeChecks, tableChecks, outputChecks, shapeChecks, inputChecks, markedChecks}
+use Rattle.family.specs.Promise.{familyChecks, Judged, judgeChecks}
+use Rattle.table.proofs.CheckLaws.{numbered-by, checked-once, passed, goes, neither, sized, exactly-long, lengths-exact, rest-decides, flag-up, flag-holds, flag-down, flag-low}
+use Rattle.table.proofs.ListLaws.{listed-by, number-in-order, listed-one-way}
 use Rattle.family.proofs.GrowLaws.{house-grows}
 use Rattle.family.proofs.HouseLaws.{house-low}
 use Rattle.table.proofs.ShapeLaws.{marked-count}
 use Rattle.table.proofs.PacketLaws.{source-bytes-low}
-use Rattle.code.specs.Code.{parity, sourcesOf, packetOf, packetsOf, survivorsOf}
+use Rattle.code.specs.Code.{parity, sourcesOf, packetOf, packetsOf}
 use Rattle.encode.specs.Stages.{allChecks}
-use Rattle.encode.specs.Promise.{EncodedAll}
+use Rattle.encode.specs.Promise.{encodeChecks, EncodedAll, encodeOneChecks, packetLengthChecks}
 use Rattle.code.proofs.CodeLaws.{desk-short, packet-size, packet-source-bits, packet-parity-bits, packet-ignores-present, sum-past}
 use Rattle.walk.specs.Walk.{Whole, Next, none, one}
 use Rattle.walk.proofs.Runs.{same-end, run-split}
 use Rattle.walk.proofs.Ends.{whole-finishes, none-finishes, finished-ended, ended-finishes, one-count, finishes-ends, some-end}
 use Rattle.walk.proofs.Totals.{run-short, total-none}
 use Rattle.walk.proofs.Grow.{every-bit}
-use Rattle.walk.proofs.ReadLaws.{presentOf, presentOf-blank, own-encodes, knows-none, readBy-knows, only}
+use Rattle.walk.specs.Read.{presentOf}
+use Rattle.walk.proofs.ReadLaws.{presentOf-blank, presentOf-kept, own-encodes, knows-none, readBy-knows, only}
 use Rattle.walk.specs.Ends.{Ended, Finishes}
-use Rattle.survivors.specs.Packets.{EncodesTo}
+use Rattle.walk.specs.Promise.{stepChecks}
+use Rattle.survivors.specs.Packets.{EncodesTo, cameSource, cameParity}
 use Rattle.rebuild.specs.Stages.{decodeChecks}
 use Rattle.rebuild.specs.Promise.{rebuildChecks, Rebuilt}
-use Rattle.survivors.proofs.CameLaws.{encoded-not-stray}
+use Rattle.survivors.proofs.CameLaws.{encodes-bits, encoded-not-stray}
 use Rattle.rebuild.proofs.OneAnswer.{one-source, rebuilt-shaped}
+use Rattle.repair.specs.Promise.{repairChecks}
+use Rattle.look.specs.Promise.{lookChecks}
+use Rattle.card.specs.Block.{blockChecks}
+use Rattle.line.specs.Promise.{sheetChecks}
 use Rattle.card.proofs.LoneBlocks.{taken-exactly-lone, taken-begins}
 use Rattle.promises.specs.Demands
-use Rattle.promises.specs.Demands.{parityIn, written, everyBit, shapeAndLengths, StandsLower}
+use Rattle.promises.specs.Demands.{parityIn, written, atHand, everyBit, shapeAndLengths, StandsLower, ComesFrom}
 
 -- ---- Demand 1
 
 -- D1.2
+pub calls-listed : Demands.CallsListed
+calls-listed = record {
+  family = λ k m before number after x. (x .numbered, refl, listed-by (familyChecks k m before) refl);
+  judge = λ k m table number growing x. (x .numbered, refl, listed-by (judgeChecks k m table) refl);
+  packet-length = λ k m l table packet number bytes x. (x .numbered, refl, listed-by (packetLengthChecks k m l table packet) refl);
+  survivors-length = λ k m l table marks number bytes x. (x .numbered, refl, listed-by (markedChecks k m l table marks) refl);
+  encode-all = λ k m l table sources before number after x. (x .numbered, refl, listed-by (encodeChecks k m l table sources before) refl);
+  encode-one = λ k m l table packet sources before number after x. (x .numbered, refl, listed-by (encodeOneChecks k m l table packet sources before) refl);
+  walk = λ k m l table marks number count whole progress x. (x .numbered, refl, listed-by (markedChecks k m l table marks) refl);
+  step = λ k m l table marks progress number parity source after x. (x .numbered, refl, listed-by (stepChecks k m l table marks progress) refl);
+  rebuild = λ k m l table marks packets before number count after x. (x .numbered, refl, listed-by (rebuildChecks k m l table marks packets before) refl);
+  repair = λ k m l table marks packets packet before number after x. (x .numbered, refl, listed-by (repairChecks k m l table marks packets packet before) refl);
+  look = λ k m l table marks source survivors rebuilt number buffer start bytes x. (x .numbered, refl, listed-by (lookChecks k m l table marks source survivors rebuilt) refl);
+  block = λ bytes before number count after x. (x .numbered, refl, listed-by (blockChecks bytes (length before)) refl);
+  class-sheet = λ input number k m l x. (x .numbered, refl, listed-by (sheetChecks input) refl);
+}
+
+pub exchanged-not-listed : Demands.ExchangedNotListed
+exchanged-not-listed = listed-one-way
+
 pub number-of-the-list : Demands.NumberOfTheList
-number-of-the-list = checked-once
+number-of-the-list cs n listed checked = number-in-order theList cs listed n checked
+
+pub one-number : Demands.OneNumber
+one-number = checked-once
 
 pub family-keeps : Demands.FamilyKeeps
 family-keeps k m before number after x = x .refused
@@ -232,18 +258,26 @@ written-packet k m l table sources parities room x i li = elim (decLt i k) [
       a-parity ∙ encoded-parity k m l table sources room parities x i g li
 ]
 
-pub encode-lose-rebuild : Demands.EncodeLoseRebuild
+-- and so the sources encode to those of them that the marks name
+at-hand-encodes : (k m l : ℕ) (table sources parities room : List ℕ)
+    → Bytes sources
+    → EncodedAll k m l table sources room 0 parities
+    → (marks : ℕ)
+    → EncodesTo (desk k m l table marks) (atHand k m l table sources parities marks) sources
 unfolding packetsOf
-encode-lose-rebuild k m l table sources parities room are-bytes x yes-said marks accepted before long =
-    let packets = joined (mark marks) (written k m l table sources parities) (k + m) in
-    let size = encoded-size k m l table sources room parities x in
-    survivors-give-the-sources k m l table marks packets before sources are-bytes size same long yes-said accepted
+at-hand-encodes k m l table sources parities room are-bytes x marks =
+    record { size = encoded-size k m l table sources room parities x; are-bytes = are-bytes; same = joined-same (mark marks) (written k m l table sources parities) (packetOf D sources) (k + m) each }
   where
-    each : (i : ℕ) → i < k + m → written k m l table sources parities i ≡ packetOf (desk k m l table marks) sources i
+    D : Desk
+    D = desk k m l table marks
+
+    each : (i : ℕ) → i < k + m → written k m l table sources parities i ≡ packetOf D sources i
     each i li = written-packet k m l table sources parities room x i li ∙ packet-ignores-present (desk k m l table 0) (mark marks) sources i
 
-    same : joined (mark marks) (written k m l table sources parities) (k + m) ≡ survivorsOf (desk k m l table marks) sources
-    same = joined-same (mark marks) (written k m l table sources parities) (packetOf (desk k m l table marks) sources) (k + m) each
+pub encode-lose-rebuild : Demands.EncodeLoseRebuild
+encode-lose-rebuild k m l table sources parities room are-bytes x yes-said marks accepted before long =
+    let E = at-hand-encodes k m l table sources parities room are-bytes x marks in
+    survivors-give-the-sources k m l table marks (atHand k m l table sources parities marks) before sources are-bytes (E .size) (E .same) long yes-said accepted
 
 -- D2.3
 pub refuses-exactly : Demands.RefusesExactly
@@ -370,6 +404,29 @@ pub every-order-reads-what-was-encoded : Demands.EveryOrderReadsWhatWasEncoded
 every-order-reads-what-was-encoded k m l table marks x o h X u =
     let G = desk k m l table marks in
     every-order-reads-the-sources k m l table marks (parity G x) (presentOf G x) x o h (presentOf-blank G x, own-encodes G x X) u
+
+module _ (k m l : ℕ) (table : List ℕ) (marks : ℕ) (packets x : List ℕ) where
+  -- the packets that came, as bits, come from the sources
+  packets-come-from : let D = desk k m l table marks in EncodesTo D packets x → ComesFrom D (cameParity D packets) (presentOf D (cameSource D packets)) (sourcesOf D x)
+  unfolding cameSource
+  packets-come-from E =
+      let G = desk k m l table marks in
+      let s = cameSource G packets in
+      (presentOf-blank G s, encodes-bits G packets x (desk-short k m l table marks x) (presentOf G s) (λ c p lc e. presentOf-kept G s c p e ∙ rw (lt-ltb c k lc)) E)
+
+pub every-order-reads-the-packets : Demands.EveryOrderReadsThePackets
+every-order-reads-the-packets k m l table marks packets x o h E u =
+    let G = desk k m l table marks in
+    every-order-reads-the-sources k m l table marks (cameParity G packets) (presentOf G (cameSource G packets)) (sourcesOf G x) o h (packets-come-from k m l table marks packets x E) u
+
+pub finished-order-has-the-packets : Demands.FinishedOrderHasThePackets
+finished-order-has-the-packets k m l table marks packets x o h E u =
+    let G = desk k m l table marks in
+    finished-order-has-the-sources k m l table marks (cameParity G packets) (presentOf G (cameSource G packets)) (sourcesOf G x) o h (packets-come-from k m l table marks packets x E) u
+
+pub every-order-reads-what-encode-all-wrote : Demands.EveryOrderReadsWhatEncodeAllWrote
+every-order-reads-what-encode-all-wrote k m l table sources parities room are-bytes x marks o h =
+    every-order-reads-the-packets k m l table marks (atHand k m l table sources parities marks) sources o h (at-hand-encodes k m l table sources parities room are-bytes x marks)
 
 -- D3.5
 pub rebuild-counts-every-order : Demands.RebuildCountsEveryOrder

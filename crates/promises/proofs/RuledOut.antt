@@ -1,27 +1,72 @@
--- Wrong programs that document 01 names: no answer of that form meets the promise at this input. Assumes nothing.
-use mathlib.Core.Path.{_≡_, ap}
-use mathlib.Core.List.{List, [], _∷_}
-use Prim.Native.Nat.{ℕ, _%_}
+-- Wrong programs: no answer of that form meets the promise at this input. Call by call; those of look, block, the choices and the class sheet stand in their crates. Assumes nothing.
+use mathlib.Core.Path.{_≡_, refl, ap}
+use mathlib.Core.Logic.{inl, inr}
+use mathlib.Core.List.{List, [], _∷_, _++_}
+use Prim.Native.Nat.{ℕ, _+_, _-_, _%_, _≤_}
 use native.Mathlib.Omega.{arith}
-use Rattle.bits.specs.Sums.{at}
-use Rattle.table.specs.Desk.{Grows, desk, entry}
-use Rattle.family.specs.Promise.{FamilyWritten, Judged}
-use Rattle.encode.specs.Promise.{EncodedAll}
+use Rattle.bits.specs.Sums.{at, sum}
+use Rattle.bits.specs.Bits.{bit, bitAt, up, fromBits, bytesOf}
 use Rattle.table.specs.Limits.{noughts}
+use Rattle.table.specs.Desk.{Desk, Grows, desk, entry, most, reach, packetBits, packetBytes, placeOf, survivorsBytes}
+use Rattle.table.specs.Checks.{Checked, shapeChecks, markedChecks, numberChecks, marksChecks, askedChecks, inputChecks, outputChecks}
+use Rattle.table.proofs.CheckLaws.{numbered-by, passed, checked-once, goes, below-by, from-later, inside, exactly-long, asked-goes}
+use Rattle.table.proofs.ShapeLaws.{marked-parts}
+use Rattle.table.proofs.Taken.{lowB, insideB, sizeB, tableB, shapeB, shape-taken}
+use Rattle.family.specs.Promise.{FamilyWritten, Judged}
+use Rattle.code.specs.Code.{sumOf, sourcesOf, packetOf}
+use Rattle.encode.specs.Stages.{lendChecks}
+use Rattle.encode.specs.Promise.{EncodedAll, EncodedOne, encodeOneChecks, PacketMeasured, SurvivorsMeasured}
+use Rattle.walk.specs.Walk.{Next, none, one}
 use Rattle.walk.specs.Promise.{Stepped, Walked}
+use Rattle.walk.proofs.OneAnswer.{one-walk}
+use Rattle.rebuild.specs.Stages.{decodeChecks, rebuildLengthsChecks, rebuildLentChecks}
 use Rattle.rebuild.specs.Promise.{Rebuilt}
 use Rattle.rebuild.proofs.OneAnswer.{one-rebuilt}
+use Rattle.repair.specs.Stages.{repairLengthsChecks, repairLentChecks, repairNamedChecks}
+use Rattle.repair.specs.Promise.{Repaired, repairChecks}
 use Rattle.promises.proofs.OneAnswer.{one-family, one-judge, one-encode-all}
-use Rattle.walk.proofs.OneAnswer.{one-walk}
+use Rattle.promises.proofs.Demands.{repair-gives-the-packet}
 use Rattle.promises.proofs.Stepping.{last, more, stepping-is-the-walk}
 use Rattle.promises.specs.Examples.{Name, house, seven, eight}
 use Rattle.promises.proofs.Examples.{example-met}
 
--- an encoder that writes nothing
-pub no-silent-encoder : EncodedAll 2 2 1 house (1 ∷ 1 ∷ []) (9 ∷ 9 ∷ 9 ∷ 9 ∷ []) 0 (9 ∷ 9 ∷ 9 ∷ 9 ∷ []) → ⊥
-no-silent-encoder x =
-    let e = one-encode-all 2 2 1 house (1 ∷ 1 ∷ []) (9 ∷ 9 ∷ 9 ∷ 9 ∷ []) x (example-met Name.encode-ones) in
-    omega (arith, ap (λ l. at l 0) (e .1))
+-- ---- the buffers and packets of the examples
+
+-- what two bytes, four and nine held that a call was lent
+abbrev two : List ℕ
+two = 9 ∷ 9 ∷ []
+
+abbrev four : List ℕ
+four = 9 ∷ 9 ∷ 9 ∷ 9 ∷ []
+
+abbrev nine : List ℕ
+nine = 9 ∷ 9 ∷ 9 ∷ 9 ∷ 9 ∷ 9 ∷ 9 ∷ 9 ∷ 9 ∷ []
+
+-- both parities of the sources 01 01; with a one above the last bit of parity 2; and such that no sources encode to them
+abbrev parities : List ℕ
+parities = 0x03 ∷ 0x00 ∷ 0x05 ∷ 0x00 ∷ []
+
+abbrev stray : List ℕ
+stray = 0x03 ∷ 0x00 ∷ 0x05 ∷ 0x04 ∷ []
+
+abbrev foreign : List ℕ
+foreign = 0x03 ∷ 0x00 ∷ 0x05 ∷ 0x01 ∷ []
+
+-- ---- family table
+
+-- a family table of noughts
+pub no-family-of-noughts : FamilyWritten 3 3 nine 0 (0 ∷ 0 ∷ 0 ∷ 0 ∷ 0 ∷ 0 ∷ 0 ∷ 0 ∷ 0 ∷ []) → ⊥
+no-family-of-noughts x =
+    let e = one-family 3 3 nine x (example-met Name.family-three) in
+    omega (arith, ap (λ l. at l 1) (e .1))
+
+-- one cut out of the full sheet by rows of k, where the sheet's have eight
+pub no-family-by-rows-of-k : FamilyWritten 3 3 nine 0 (0 ∷ 1 ∷ 2 ∷ 3 ∷ 4 ∷ 5 ∷ 6 ∷ 7 ∷ 0 ∷ []) → ⊥
+no-family-by-rows-of-k x =
+    let e = one-family 3 3 nine x (example-met Name.family-three) in
+    omega (arith, ap (λ l. at l 3) (e .1))
+
+-- ---- judge
 
 -- a judge that says the same of every table: yes of all, and no of all
 pub no-judge-always-yes : Judged 2 2 seven 0 1 → ⊥
@@ -30,11 +75,101 @@ no-judge-always-yes x = let e = one-judge 2 2 seven x (example-met Name.judge-se
 pub no-judge-always-no : Judged 2 2 house 0 0 → ⊥
 no-judge-always-no x = let e = one-judge 2 2 house x (example-met Name.judge-house) in omega (arith, e .1)
 
--- a family table of noughts
-pub no-family-of-noughts : FamilyWritten 3 3 (9 ∷ 9 ∷ 9 ∷ 9 ∷ 9 ∷ 9 ∷ 9 ∷ 9 ∷ 9 ∷ []) 0 (0 ∷ 0 ∷ 0 ∷ 0 ∷ 0 ∷ 0 ∷ 0 ∷ 0 ∷ 0 ∷ []) → ⊥
-no-family-of-noughts x =
-    let e = one-family 3 3 (9 ∷ 9 ∷ 9 ∷ 9 ∷ 9 ∷ 9 ∷ 9 ∷ 9 ∷ 9 ∷ []) x (example-met Name.family-three) in
-    omega (arith, ap (λ l. at l 1) (e .1))
+-- ---- packet length and survivors' length
+
+-- what lengths and packets compute with
+measuring : Unit {0}
+unfolding entry most reach packetBits packetBytes placeOf sum
+measuring = tt
+
+coding : Unit {0}
+unfolding measuring sumOf sourcesOf packetOf bit bitAt up fromBits bytesOf
+coding = tt
+
+-- a parity as long as a source
+pub no-parity-as-long-as-a-source : PacketMeasured 2 2 1 house 3 0 1 → ⊥
+unfolding measuring
+no-parity-as-long-as-a-source x = omega (arith, x .done refl)
+
+-- a parity's length by its own row, where all are as long as the longest
+pub no-length-by-the-row : PacketMeasured 2 2 1 (0 ∷ 1 ∷ 0 ∷ 9 ∷ []) 3 0 2 → ⊥
+unfolding measuring
+no-length-by-the-row x = omega (arith, x .done refl)
+
+-- a source's length in bits
+pub no-length-in-bits : PacketMeasured 2 2 1 house 1 0 8 → ⊥
+unfolding measuring
+no-length-in-bits x = omega (arith, x .done refl)
+
+-- packets counted from 0
+pub no-packet-nought : {length : ℕ} → PacketMeasured 2 2 1 house 0 0 length → ⊥
+no-packet-nought x = refuses (passed (shapeChecks 2 2 1 house) (numberChecks 4 0) (numbered-by (shapeChecks 2 2 1 house) refl) (x .numbered) .1)
+  where
+    refuses : Checked (numberChecks 4 0) 0 → ⊥
+    refuses (inl c) = omega (arith, c .1)
+    refuses (inr c) = c .0 (inl (omega arith))
+
+-- survivors as long as the sources
+pub no-survivors-as-long-as-the-sources : SurvivorsMeasured 2 2 1 house 12 0 2 → ⊥
+unfolding measuring
+no-survivors-as-long-as-the-sources x = omega (arith, x .done refl)
+
+-- every parity counted, also one that is not at hand
+pub no-survivors-with-every-parity : SurvivorsMeasured 2 2 1 house 9 0 5 → ⊥
+unfolding measuring
+no-survivors-with-every-parity x = omega (arith, x .done refl)
+
+-- ---- marks
+
+-- marks cut to sixteen bits: packet 17 is none of four
+cut-marks-refused : Checked (marksChecks 2 2 0x1000C) 0 → ⊥
+cut-marks-refused (inl c) = omega (arith, c .1)
+cut-marks-refused (inr c) = c .0 (16, omega arith, refl)
+
+no-marks-cut : Checked (markedChecks 2 2 1 house 0x1000C) 0 → ⊥
+no-marks-cut c = cut-marks-refused (passed (shapeChecks 2 2 1 house) (marksChecks 2 2 0x1000C) (numbered-by (shapeChecks 2 2 1 house) refl) c .1)
+
+pub no-survivors-of-cut-marks : {length : ℕ} → SurvivorsMeasured 2 2 1 house 0x1000C 0 length → ⊥
+no-survivors-of-cut-marks x = no-marks-cut (x .numbered)
+
+pub no-walk-of-cut-marks : {count whole : ℕ} {progress : List ℕ} → Walked 2 2 1 house 0x1000C 0 count whole progress → ⊥
+no-walk-of-cut-marks x = no-marks-cut (x .numbered)
+
+pub no-rebuild-of-cut-marks : {count : ℕ} {after : List ℕ} → Rebuilt 2 2 1 house 0x1000C parities two 0 count after → ⊥
+no-rebuild-of-cut-marks x =
+    let cs = markedChecks 2 2 1 house 0x1000C in
+    no-marks-cut (passed cs (rebuildLentChecks (desk 2 2 1 house 0x1000C) parities two) (numbered-by cs refl) (x .numbered) .0)
+
+-- ---- encode all and encode one
+
+-- an encoder that writes nothing
+pub no-silent-encoder : EncodedAll 2 2 1 house (1 ∷ 1 ∷ []) four 0 four → ⊥
+no-silent-encoder x =
+    let e = one-encode-all 2 2 1 house (1 ∷ 1 ∷ []) four x (example-met Name.encode-ones) in
+    omega (arith, ap (λ l. at l 0) (e .1))
+
+-- one that writes the last parity first
+pub no-last-parity-first : EncodedAll 2 2 1 house (1 ∷ 1 ∷ []) four 0 (0x05 ∷ 0x00 ∷ 0x03 ∷ 0x00 ∷ []) → ⊥
+no-last-parity-first x =
+    let e = one-encode-all 2 2 1 house (1 ∷ 1 ∷ []) four x (example-met Name.encode-ones) in
+    omega (arith, ap (λ l. at l 0) (e .1))
+
+-- 4 checked before 6: packet 99 of sources of a wrong length
+pub no-four-before-six : {after : List ℕ} → EncodedOne 2 2 1 house 99 [] two 4 after → ⊥
+unfolding shapeB sizeB insideB tableB lowB
+no-four-before-six x = omega (arith, checked-once (encodeOneChecks 2 2 1 house 99 [] two) 4 6 (x .numbered) six)
+  where
+    six : Checked (encodeOneChecks 2 2 1 house 99 [] two) 6
+    six =
+        goes (shapeChecks 2 2 1 house) (numberChecks 4 99 ++ lendChecks (desk 2 2 1 house 0) 98 [] two) 6 (numbered-by (shapeChecks 2 2 1 house) refl) (shape-taken 2 2 1 house refl)
+        (inl (inr (omega arith), refl))
+
+-- packets counted from 0: parity 2 for packet 3
+pub no-next-packet-for-this : EncodedOne 2 2 1 house 3 (1 ∷ 1 ∷ []) two 0 (0x05 ∷ 0x00 ∷ []) → ⊥
+unfolding coding
+no-next-packet-for-this x = omega (arith, ap (λ l. at l 0) (x .done refl))
+
+-- ---- walk and next step
 
 -- a step that finishes the whole walk at once and then reports nothing left: next step takes as many calls as walk counts steps, here sixteen
 pub no-walk-in-one-step : {parity source source′ : ℕ} {after after′ : List ℕ}
@@ -57,8 +192,31 @@ no-count-past-a-stall x =
     let e = one-walk 2 2 1 seven 12 x (example-met Name.walk-seven) in
     omega (arith, e .1)
 
+-- a present source told as uncovered, with progress 8·L
+pub no-progress-of-a-present-source : {c w : ℕ} → Walked 2 2 1 house 9 0 c w (8 ∷ 8 ∷ 0 ∷ 0 ∷ 0 ∷ 0 ∷ 0 ∷ 0 ∷ []) → ⊥
+no-progress-of-a-present-source x =
+    let e = one-walk 2 2 1 house 9 x (example-met Name.walk-one-parity) in
+    omega (arith, ap (λ l. at l 0) (e .3))
+
+-- a tie taken for a bare pair: after seven bits both sources stand at the same place, and no step is left
+pub no-tie-taken : {parity source : ℕ} {after : List ℕ}
+    → (parity ≡ 0 → ⊥)
+    → Stepped 2 2 1 seven 12 (7 ∷ 0 ∷ 0 ∷ 0 ∷ 0 ∷ 0 ∷ 0 ∷ 0 ∷ []) 0 parity source after
+    → ⊥
+no-tie-taken {parity} {source} {after} ne x = never (x .done refl)
+  where
+    never : Next (desk 2 2 1 seven 12) (7 ∷ 0 ∷ 0 ∷ 0 ∷ 0 ∷ 0 ∷ 0 ∷ 0 ∷ []) parity source after → ⊥
+    never (none s p q e) = ne p
+    never (one a b low p q e) = example-met Name.walk-seven .done refl .stuck a b (low .bare)
+
+-- a finished source that still covers: after eight bits source 1 would stand where source 2 does
+pub no-finished-source-covers : {w : ℕ} {progress : List ℕ} → Walked 2 2 1 eight 12 0 8 w progress → ⊥
+no-finished-source-covers x =
+    let e = one-walk 2 2 1 eight 12 x (example-met Name.walk-eight) in
+    omega (arith, e .1)
+
 -- a walk that calls every table without growing differences not whole: this one has none, and its walk is whole
-pub no-growing-differences : Grows (desk 2 2 1 eight 12) → ⊥
+no-growing-differences : Grows (desk 2 2 1 eight 12) → ⊥
 unfolding entry
 no-growing-differences g = omega (arith, g 0 1 0 1 (omega arith) (omega arith) (omega arith) (omega arith))
 
@@ -67,43 +225,133 @@ whole-without-growing-differences x =
     let e = one-walk 2 2 1 eight 12 x (example-met Name.walk-eight) in
     omega (arith, e .2)
 
+-- ---- rebuild
+
 -- a rebuild that refuses all
-pub no-rebuild-refuses-all : {number count : ℕ} {after : List ℕ} → (number ≡ 0 → ⊥) → Rebuilt 2 2 1 house 12 (0x03 ∷ 0x00 ∷ 0x05 ∷ 0x00 ∷ []) (9 ∷ 9 ∷ []) number count after → ⊥
+pub no-rebuild-refuses-all : {number count : ℕ} {after : List ℕ} → (number ≡ 0 → ⊥) → Rebuilt 2 2 1 house 12 parities two number count after → ⊥
 no-rebuild-refuses-all {number} {count} {after} n x =
-    let e = one-rebuilt 2 2 1 house 12 (0x03 ∷ 0x00 ∷ 0x05 ∷ 0x00 ∷ []) (9 ∷ 9 ∷ []) number count after 0 16 (0x01 ∷ 0x01 ∷ []) x (example-met Name.rebuild-both-parities) in
+    let e = one-rebuilt 2 2 1 house 12 parities two number count after 0 16 (0x01 ∷ 0x01 ∷ []) x (example-met Name.rebuild-both-parities) in
     n (e .0)
 
 -- one that always returns zeros
-pub no-rebuild-of-zeros : {number count : ℕ} → Rebuilt 2 2 1 house 12 (0x03 ∷ 0x00 ∷ 0x05 ∷ 0x00 ∷ []) (9 ∷ 9 ∷ []) number count (0 ∷ 0 ∷ []) → ⊥
+pub no-rebuild-of-zeros : {number count : ℕ} → Rebuilt 2 2 1 house 12 parities two number count (0 ∷ 0 ∷ []) → ⊥
 no-rebuild-of-zeros {number} {count} x =
-    let e = one-rebuilt 2 2 1 house 12 (0x03 ∷ 0x00 ∷ 0x05 ∷ 0x00 ∷ []) (9 ∷ 9 ∷ []) number count (0 ∷ 0 ∷ []) 0 16 (0x01 ∷ 0x01 ∷ []) x (example-met Name.rebuild-both-parities) in
+    let e = one-rebuilt 2 2 1 house 12 parities two number count (0 ∷ 0 ∷ []) 0 16 (0x01 ∷ 0x01 ∷ []) x (example-met Name.rebuild-both-parities) in
     omega (arith, ap (λ l. at l 0) (e .2))
 
 -- one that takes the lowest set bit for the lowest unknown bit: it reads a one first
-pub no-lowest-set-bit : {number count : ℕ} {after : List ℕ} → at after 0 % 2 ≡ 1 → Rebuilt 2 2 1 house 12 (0x00 ∷ 0x01 ∷ 0x80 ∷ 0x03 ∷ []) (9 ∷ 9 ∷ []) number count after → ⊥
+pub no-lowest-set-bit : {number count : ℕ} {after : List ℕ} → at after 0 % 2 ≡ 1 → Rebuilt 2 2 1 house 12 (0x00 ∷ 0x01 ∷ 0x80 ∷ 0x03 ∷ []) two number count after → ⊥
 no-lowest-set-bit {number} {count} {after} odd x =
-    let e = one-rebuilt 2 2 1 house 12 (0x00 ∷ 0x01 ∷ 0x80 ∷ 0x03 ∷ []) (9 ∷ 9 ∷ []) number count after 0 16 (0x80 ∷ 0xC0 ∷ []) x (example-met Name.rebuild-high-bits) in
+    let e = one-rebuilt 2 2 1 house 12 (0x00 ∷ 0x01 ∷ 0x80 ∷ 0x03 ∷ []) two number count after 0 16 (0x80 ∷ 0xC0 ∷ []) x (example-met Name.rebuild-high-bits) in
     omega (arith, odd, ap (λ l. at l 0) (e .2))
 
--- one that never gives 10
-pub no-rebuild-without-ten : {number count : ℕ} {after : List ℕ} → (number ≡ 10 → ⊥) → Rebuilt 2 2 1 house 12 (0x03 ∷ 0x00 ∷ 0x05 ∷ 0x01 ∷ []) (9 ∷ 9 ∷ []) number count after → ⊥
-no-rebuild-without-ten {number} {count} {after} n x =
-    let e = one-rebuilt 2 2 1 house 12 (0x03 ∷ 0x00 ∷ 0x05 ∷ 0x01 ∷ []) (9 ∷ 9 ∷ []) number count after 10 0 (9 ∷ 9 ∷ []) x (example-met Name.rebuild-no-sources) in
-    n (e .0)
+-- one that reads a bit without its shift: parity 2 has source 2 two bits up, and source 1 taken out leaves 04
+pub no-bit-without-its-shift : {number count : ℕ} → Rebuilt 2 2 1 house 9 (0x01 ∷ 0x05 ∷ 0x00 ∷ []) two number count (0x01 ∷ 0x04 ∷ []) → ⊥
+no-bit-without-its-shift {number} {count} x =
+    let e = one-rebuilt 2 2 1 house 9 (0x01 ∷ 0x05 ∷ 0x00 ∷ []) two number count (0x01 ∷ 0x04 ∷ []) 0 8 (0x01 ∷ 0x01 ∷ []) x (example-met Name.rebuild-one-parity) in
+    omega (arith, ap (λ l. at l 1) (e .2))
 
 -- one that gives 8 because the judge says no
-pub no-stall-by-the-judge : {count : ℕ} {after : List ℕ} → Rebuilt 2 2 1 eight 12 (0x01 ∷ 0x01 ∷ 0x01 ∷ 0x01 ∷ []) (9 ∷ 9 ∷ []) 8 count after → ⊥
+pub no-stall-by-the-judge : {count : ℕ} {after : List ℕ} → Rebuilt 2 2 1 eight 12 (0x01 ∷ 0x01 ∷ 0x01 ∷ 0x01 ∷ []) two 8 count after → ⊥
 no-stall-by-the-judge {count} {after} x =
-    let e = one-rebuilt 2 2 1 eight 12 (0x01 ∷ 0x01 ∷ 0x01 ∷ 0x01 ∷ []) (9 ∷ 9 ∷ []) 8 count after 0 16 (0x01 ∷ 0x01 ∷ []) x (example-met Name.rebuild-eight) in
+    let e = one-rebuilt 2 2 1 eight 12 (0x01 ∷ 0x01 ∷ 0x01 ∷ 0x01 ∷ []) two 8 count after 0 16 (0x01 ∷ 0x01 ∷ []) x (example-met Name.rebuild-eight) in
     omega (arith, e .0)
 
 -- a count of 0, or of 8·L for each missing source, at a stall
-pub no-nought-at-a-stall : {number : ℕ} {after : List ℕ} → Rebuilt 2 2 1 seven 12 (0x03 ∷ 0x00 ∷ 0x05 ∷ 0x00 ∷ []) (9 ∷ 9 ∷ []) number 0 after → ⊥
+pub no-nought-at-a-stall : {number : ℕ} {after : List ℕ} → Rebuilt 2 2 1 seven 12 parities two number 0 after → ⊥
 no-nought-at-a-stall {number} {after} x =
-    let e = one-rebuilt 2 2 1 seven 12 (0x03 ∷ 0x00 ∷ 0x05 ∷ 0x00 ∷ []) (9 ∷ 9 ∷ []) number 0 after 8 7 (9 ∷ 9 ∷ []) x (example-met Name.rebuild-seven) in
+    let e = one-rebuilt 2 2 1 seven 12 parities two number 0 after 8 7 two x (example-met Name.rebuild-seven) in
     omega (arith, e .1)
 
-pub no-full-count-at-a-stall : {number : ℕ} {after : List ℕ} → Rebuilt 2 2 1 seven 12 (0x03 ∷ 0x00 ∷ 0x05 ∷ 0x00 ∷ []) (9 ∷ 9 ∷ []) number 16 after → ⊥
+pub no-full-count-at-a-stall : {number : ℕ} {after : List ℕ} → Rebuilt 2 2 1 seven 12 parities two number 16 after → ⊥
 no-full-count-at-a-stall {number} {after} x =
-    let e = one-rebuilt 2 2 1 seven 12 (0x03 ∷ 0x00 ∷ 0x05 ∷ 0x00 ∷ []) (9 ∷ 9 ∷ []) number 16 after 8 7 (9 ∷ 9 ∷ []) x (example-met Name.rebuild-seven) in
+    let e = one-rebuilt 2 2 1 seven 12 parities two number 16 after 8 7 two x (example-met Name.rebuild-seven) in
     omega (arith, e .1)
+
+-- 9 for a one above the row's last bit that is not above the table's
+pub no-stray-by-the-row : {count : ℕ} {after : List ℕ} → Rebuilt 2 2 1 house 12 (0x00 ∷ 0x02 ∷ 0x00 ∷ 0x00 ∷ []) two 9 count after → ⊥
+no-stray-by-the-row {count} {after} x =
+    let e = one-rebuilt 2 2 1 house 12 (0x00 ∷ 0x02 ∷ 0x00 ∷ 0x00 ∷ []) two 9 count after 10 0 two x (example-met Name.rebuild-past-the-row) in
+    omega (arith, e .0)
+
+-- 10 checked before 9: no sources encode to a packet with a one above its last bit either
+pub no-ten-before-nine : {count : ℕ} {after : List ℕ} → Rebuilt 2 2 1 house 12 stray two 10 count after → ⊥
+no-ten-before-nine {count} {after} x =
+    let e = one-rebuilt 2 2 1 house 12 stray two 10 count after 9 0 two x (example-met Name.rebuild-one-above) in
+    omega (arith, e .0)
+
+-- one that never gives 10
+pub no-rebuild-without-ten : {number count : ℕ} {after : List ℕ} → (number ≡ 10 → ⊥) → Rebuilt 2 2 1 house 12 foreign two number count after → ⊥
+no-rebuild-without-ten {number} {count} {after} n x =
+    let e = one-rebuilt 2 2 1 house 12 foreign two number count after 10 0 two x (example-met Name.rebuild-no-sources) in
+    n (e .0)
+
+-- one that writes what it read and then refuses
+pub no-output-of-a-refused-rebuild : {number count : ℕ} → Rebuilt 2 2 1 house 12 foreign two number count (0x01 ∷ 0x01 ∷ []) → ⊥
+no-output-of-a-refused-rebuild {number} {count} x =
+    let e = one-rebuilt 2 2 1 house 12 foreign two number count (0x01 ∷ 0x01 ∷ []) 10 0 two x (example-met Name.rebuild-no-sources) in
+    omega (arith, ap (λ l. at l 0) (e .2))
+
+-- ---- repair
+
+-- a repair that refuses all
+pub no-repair-refuses-all : {number : ℕ} {after : List ℕ} → (number ≡ 0 → ⊥) → Repaired 2 2 1 house 12 parities 1 (9 ∷ []) number after → ⊥
+unfolding measuring
+no-repair-refuses-all {number} n x = n (checked-once (repairChecks 2 2 1 house 12 parities 1 (9 ∷ [])) number 0 (x .numbered) taken)
+  where
+    D : Desk
+    D = desk 2 2 1 house 12
+
+    -- rebuild takes the same packets
+    rebuilt : Checked (markedChecks 2 2 1 house 12) 0 × Checked (rebuildLentChecks D parities two) 0
+    rebuilt = passed (markedChecks 2 2 1 house 12) (rebuildLentChecks D parities two) (numbered-by (markedChecks 2 2 1 house 12) refl) (example-met Name.rebuild-both-parities .numbered)
+
+    decoded : Checked (decodeChecks D parities) 0
+    decoded = passed (rebuildLengthsChecks D parities two) (decodeChecks D parities) (numbered-by (rebuildLengthsChecks D parities two) refl) (rebuilt .1) .1
+
+    lengths : Checked (repairLengthsChecks D parities 0 (9 ∷ [])) 0
+    lengths =
+        let input = inputChecks (survivorsBytes D) parities in
+        goes input (outputChecks (packetBytes D 0) (9 ∷ [])) 0 (numbered-by input refl) (exactly-long 4 (survivorsBytes D) parities refl) (exactly-long 5 (packetBytes D 0) (9 ∷ []) refl)
+
+    taken : Checked (repairChecks 2 2 1 house 12 parities 1 (9 ∷ [])) 0
+    taken =
+        let shape = shapeChecks 2 2 1 house in
+        let asked = askedChecks 2 2 12 4 1 in
+        let sizes = repairLengthsChecks D parities 0 (9 ∷ []) in
+        let p = marked-parts 2 2 1 house 12 (rebuilt .0) in
+        let lent = goes sizes (decodeChecks D parities) 0 (numbered-by sizes refl) lengths decoded in
+        let named = goes asked (repairLentChecks D parities 0 (9 ∷ [])) 0 (numbered-by asked refl) (asked-goes 2 2 12 4 1 0 (inr (inside (omega arith) (omega arith), refl)) (p .1)) lent in
+        goes shape (repairNamedChecks D parities 12 1 (9 ∷ [])) 0 (numbered-by shape refl) (p .0) named
+
+-- 8 skipped, 9 skipped, 10 skipped: a packet is given although the walk stalls, a packet has a one above its last bit, no sources encode to the packets
+module _ (table packets : List ℕ) (packet : ℕ) (before after : List ℕ) (x : Repaired 2 2 1 table 12 packets packet before 0 after) where
+  repaired-decodes : Checked (decodeChecks (desk 2 2 1 table 12) packets) 0
+  repaired-decodes =
+      let D = desk 2 2 1 table 12 in
+      let named = passed (shapeChecks 2 2 1 table) (repairNamedChecks D packets 12 packet before) (numbered-by (shapeChecks 2 2 1 table) refl) (x .numbered) .1 in
+      let lent = passed (askedChecks 2 2 12 4 packet) (repairLentChecks D packets (packet - 1) before) (numbered-by (askedChecks 2 2 12 4 packet) refl) named .1 in
+      passed (repairLengthsChecks D packets (packet - 1) before) (decodeChecks D packets) (numbered-by (repairLengthsChecks D packets (packet - 1) before) refl) lent .1
+
+  -- where rebuild gives another number at the same packets
+  repaired-as-rebuilt : {number count : ℕ} {room sources : List ℕ} → Rebuilt 2 2 1 table 12 packets room number count sources → 8 ≤ number → ⊥
+  repaired-as-rebuilt {number} {count} {room} y l =
+      let D = desk 2 2 1 table 12 in
+      let front = markedChecks 2 2 1 table 12 ++ rebuildLengthsChecks D packets room in
+      omega (arith, checked-once (decodeChecks D packets) number 0 (from-later 8 front (decodeChecks D packets) number l (below-by 8 front refl) (y .numbered) .1) repaired-decodes)
+
+pub no-repair-past-a-stall : {packet : ℕ} {before after : List ℕ} → Repaired 2 2 1 seven 12 parities packet before 0 after → ⊥
+no-repair-past-a-stall {packet} {before} {after} x = repaired-as-rebuilt seven parities packet before after x (example-met Name.rebuild-seven) (omega arith)
+
+pub no-repair-of-stray-packets : {packet : ℕ} {before after : List ℕ} → Repaired 2 2 1 house 12 stray packet before 0 after → ⊥
+no-repair-of-stray-packets {packet} {before} {after} x = repaired-as-rebuilt house stray packet before after x (example-met Name.rebuild-one-above) (omega arith)
+
+-- so no packet at hand is copied unseen: not parity 1 either, although it came as it was sent
+pub no-repair-of-foreign-packets : {packet : ℕ} {before after : List ℕ} → Repaired 2 2 1 house 12 foreign packet before 0 after → ⊥
+no-repair-of-foreign-packets {packet} {before} {after} x = repaired-as-rebuilt house foreign packet before after x (example-met Name.rebuild-no-sources) (omega arith)
+
+-- the packet at hand that stands there, for the one asked for: parity 1 for source 1
+pub no-packet-at-hand-for-another : Repaired 2 2 1 house 12 parities 1 (9 ∷ []) 0 (0x03 ∷ []) → ⊥
+unfolding coding
+no-packet-at-hand-for-another x =
+    omega (arith, ap (λ l. at l 0) (repair-gives-the-packet 2 2 1 house 12 parities (9 ∷ []) 1 (0x03 ∷ []) two 16 (0x01 ∷ 0x01 ∷ []) x (example-met Name.rebuild-both-parities)))

@@ -1,7 +1,7 @@
 -- The demands, sentence by sentence, and what each says of the calls, over their own inputs. proofs/Demands proves each statement: `ParitiesAreTheSum` is proved as `parities-are-the-sum`.
 use mathlib.Core.Path.{_≡_}
 use mathlib.Core.Logic.{_↔_, _≢_, _⊎_}
-use mathlib.Core.List.{List, _++_, _∷_}
+use mathlib.Core.List.{List, [], _∷_, _++_}
 use mathlib.Core.Bool.{not}
 use Prim.Native.Nat.{ℕ, _+_, _-_, _*_, _≤_, _<_}
 use lib.Dec.{leb, ltb}
@@ -9,20 +9,21 @@ use lib.ListN.{length, drop, set}
 use Rattle.bits.specs.Sums.{at, count, pick}
 use Rattle.bits.specs.Bits.{Bytes, bitAt, slice, part, joined}
 use Rattle.table.specs.Desk.{Desk, desk, mark, sourceBits, sourceBytes, sourcesBytes, survivorsBytes, packetBits, packetBytes, placeOf}
-use Rattle.table.specs.Checks.{Checks, Checked, markedChecks, inputChecks, outputChecks}
-use Rattle.family.specs.Promise.{FamilyWritten, Judged}
+use Rattle.table.specs.Checks.{Checks, Checked, theList, InOrder, numbersOf, Listed, Refuses, markedChecks, inputChecks, outputChecks}
+use Rattle.family.specs.Promise.{familyChecks, FamilyWritten, judgeChecks, Judged}
 use Rattle.code.specs.Code.{Bits, parity, sourcesOf, packetOf, survivorsOf, Source, Encodes}
-use Rattle.encode.specs.Promise.{EncodedAll, EncodedOne}
+use Rattle.encode.specs.Promise.{encodeChecks, EncodedAll, encodeOneChecks, EncodedOne, packetLengthChecks, PacketMeasured, SurvivorsMeasured}
 use Rattle.walk.specs.Walk.{Order, Gone, Held, Free, Stuck, Run, Whole}
-use Rattle.walk.specs.Read.{readBy}
-use Rattle.walk.specs.Promise.{Walked, Stepped}
-use Rattle.walk.proofs.ReadLaws.{presentOf}
+use Rattle.walk.specs.Read.{presentOf, readBy}
+use Rattle.walk.specs.Promise.{Walked, stepChecks, Stepped}
 use Rattle.walk.specs.Ends.{Finishes}
-use Rattle.survivors.specs.Packets.{EncodesTo}
-use Rattle.rebuild.specs.Promise.{Rebuilt}
-use Rattle.repair.specs.Promise.{Repaired}
-use Rattle.card.specs.Block.{LoneBlock}
+use Rattle.survivors.specs.Packets.{EncodesTo, cameSource, cameParity}
+use Rattle.rebuild.specs.Promise.{rebuildChecks, Rebuilt}
+use Rattle.repair.specs.Promise.{repairChecks, Repaired}
+use Rattle.look.specs.Promise.{lookChecks, LookedAt}
+use Rattle.card.specs.Block.{blockChecks, LoneBlock}
 use Rattle.card.specs.Promise.{BlockTaken}
+use Rattle.line.specs.Promise.{sheetChecks, LineRead}
 
 -- ---- Demand 1
 
@@ -30,11 +31,73 @@ use Rattle.card.specs.Promise.{BlockTaken}
 -- That is what it says of a function of this language, with no `requires`, that it is proved.
 
 -- D1.2 Bad input gets the number from our list, in the listed order, and the output it was lent keeps its old bytes.
--- The number is that of the first check that refuses; two calls with the same checks give the same one:
-abbrev pub NumberOfTheList : Type 1
-NumberOfTheList = (cs : Checks) (n n′ : ℕ) → Checked cs n → Checked cs n′ → n ≡ n′
 
--- and each call that is lent an output keeps it.
+-- The list is `theList` of table, specs/Checks. A call's number is that of the first of its checks that refuses; its checks have these numbers, and are made in the order of the list.
+abbrev pub MadeInOrder : Checks → List ℕ → ℕ → Type 0
+MadeInOrder checks numbers number = Checked checks number × (numbersOf checks ≡ numbers) × Listed checks
+
+pub record CallsListed : Type 0 where
+  pub family : (k m : ℕ) (before : List ℕ) (number : ℕ) (after : List ℕ)
+      → FamilyWritten k m before number after
+      → MadeInOrder (familyChecks k m before) (1 ∷ 5 ∷ []) number
+  pub judge : (k m : ℕ) (table : List ℕ) (number growing : ℕ)
+      → Judged k m table number growing
+      → MadeInOrder (judgeChecks k m table) (1 ∷ 3 ∷ []) number
+  pub packet-length : (k m l : ℕ) (table : List ℕ) (packet number bytes : ℕ)
+      → PacketMeasured k m l table packet number bytes
+      → MadeInOrder (packetLengthChecks k m l table packet) (1 ∷ 2 ∷ 3 ∷ 6 ∷ []) number
+  pub survivors-length : (k m l : ℕ) (table : List ℕ) (marks number bytes : ℕ)
+      → SurvivorsMeasured k m l table marks number bytes
+      → MadeInOrder (markedChecks k m l table marks) (1 ∷ 2 ∷ 3 ∷ 6 ∷ 7 ∷ []) number
+  pub encode-all : (k m l : ℕ) (table sources before : List ℕ) (number : ℕ) (after : List ℕ)
+      → EncodedAll k m l table sources before number after
+      → MadeInOrder (encodeChecks k m l table sources before) (1 ∷ 2 ∷ 3 ∷ 4 ∷ 5 ∷ []) number
+  pub encode-one : (k m l : ℕ) (table : List ℕ) (packet : ℕ) (sources before : List ℕ) (number : ℕ) (after : List ℕ)
+      → EncodedOne k m l table packet sources before number after
+      → MadeInOrder (encodeOneChecks k m l table packet sources before) (1 ∷ 2 ∷ 3 ∷ 6 ∷ 4 ∷ 5 ∷ []) number
+  pub walk : (k m l : ℕ) (table : List ℕ) (marks number count whole : ℕ) (progress : List ℕ)
+      → Walked k m l table marks number count whole progress
+      → MadeInOrder (markedChecks k m l table marks) (1 ∷ 2 ∷ 3 ∷ 6 ∷ 7 ∷ []) number
+  pub step : (k m l : ℕ) (table : List ℕ) (marks : ℕ) (progress : List ℕ) (number parity source : ℕ) (after : List ℕ)
+      → Stepped k m l table marks progress number parity source after
+      → MadeInOrder (stepChecks k m l table marks progress) (1 ∷ 2 ∷ 3 ∷ 6 ∷ 7 ∷ 17 ∷ []) number
+  pub rebuild : (k m l : ℕ) (table : List ℕ) (marks : ℕ) (packets before : List ℕ) (number count : ℕ) (after : List ℕ)
+      → Rebuilt k m l table marks packets before number count after
+      → MadeInOrder (rebuildChecks k m l table marks packets before) (1 ∷ 2 ∷ 3 ∷ 6 ∷ 7 ∷ 4 ∷ 5 ∷ 8 ∷ 9 ∷ 10 ∷ []) number
+  pub repair : (k m l : ℕ) (table : List ℕ) (marks : ℕ) (packets : List ℕ) (packet : ℕ) (before : List ℕ) (number : ℕ) (after : List ℕ)
+      → Repaired k m l table marks packets packet before number after
+      → MadeInOrder (repairChecks k m l table marks packets packet before) (1 ∷ 2 ∷ 3 ∷ 6 ∷ 7 ∷ 4 ∷ 5 ∷ 8 ∷ 9 ∷ 10 ∷ []) number
+  pub look : (k m l : ℕ) (table : List ℕ) (marks source : ℕ) (survivors rebuilt : List ℕ) (number buffer start bytes : ℕ)
+      → LookedAt k m l table marks source survivors rebuilt number buffer start bytes
+      → MadeInOrder (lookChecks k m l table marks source survivors rebuilt) (1 ∷ 2 ∷ 3 ∷ 6 ∷ 7 ∷ 4 ∷ 4 ∷ []) number
+  pub block : (bytes before : List ℕ) (number count : ℕ) (after : List ℕ)
+      → BlockTaken bytes before number count after
+      → MadeInOrder (blockChecks bytes (length before)) (11 ∷ 12 ∷ 13 ∷ 14 ∷ 15 ∷ 16 ∷ []) number
+  pub class-sheet : (input : List ℕ) (number k m l : ℕ)
+      → LineRead (sheetChecks input) input number k m l
+      → MadeInOrder (sheetChecks input) (18 ∷ 1 ∷ 2 ∷ []) number
+
+-- No two of a call's checks can be exchanged but such as have the same number.
+abbrev pub ExchangedNotListed : Type 1
+ExchangedNotListed =
+    (front between back : Checks) (c d : ℕ × Type 0)
+    → Listed (front ++ c ∷ (between ++ d ∷ back))
+    → Listed (front ++ d ∷ (between ++ c ∷ back))
+    → c .0 ≡ d .0
+
+-- So the number is 0 and no check refuses; or it is that of a check that refuses, and none that refuses stands before it in the list.
+abbrev pub NumberOfTheList : Type 1
+NumberOfTheList =
+    (cs : Checks) (n : ℕ)
+    → Listed cs
+    → Checked cs n
+    → ((n ≡ 0) × ((x : ℕ) → Refuses cs x → ⊥)) ⊎ (Refuses cs n × ((x : ℕ) → Refuses cs x → InOrder (n ∷ x ∷ []) theList))
+
+-- There is one such number.
+abbrev pub OneNumber : Type 1
+OneNumber = (cs : Checks) (n n′ : ℕ) → Checked cs n → Checked cs n′ → n ≡ n′
+
+-- Each call that is lent an output keeps it.
 abbrev pub FamilyKeeps : Type 0
 FamilyKeeps =
     (k m : ℕ) (before : List ℕ) (number : ℕ) (after : List ℕ)
@@ -165,6 +228,10 @@ SurvivorsGiveTheSources =
 abbrev pub written : ℕ → ℕ → ℕ → List ℕ → List ℕ → List ℕ → ℕ → List ℕ
 written k m l table sources parities i = pick (ltb i k) (part sources (sourceBytes l) i) (parityIn k m l table parities i)
 
+-- those of them that the marks name, one after another
+abbrev pub atHand : ℕ → ℕ → ℕ → List ℕ → List ℕ → List ℕ → ℕ → List ℕ
+atHand k m l table sources parities marks = joined (mark marks) (written k m l table sources parities) (k + m)
+
 -- Encoding, losing any m packets of a table with the judge's yes, and rebuilding gives the sources back, after every bit of the missing ones.
 abbrev pub EncodeLoseRebuild : Type 0
 EncodeLoseRebuild =
@@ -177,7 +244,7 @@ EncodeLoseRebuild =
     → (before : List ℕ)
     → length before ≡ sourcesBytes (desk k m l table marks)
     → (number count : ℕ) (after : List ℕ)
-    → Rebuilt k m l table marks (joined (mark marks) (written k m l table sources parities) (k + m)) before number count after
+    → Rebuilt k m l table marks (atHand k m l table sources parities marks) before number count after
     → (number ≡ 0) × (after ≡ sources) × (count ≡ everyBit k l marks)
 
 -- D2.3 once the shape is accepted and the walk does not stall, it refuses exactly when no sources do.
@@ -355,6 +422,47 @@ EveryOrderReadsWhatWasEncoded =
     → Gone D c
     → p < h c
     → readBy D (parity D x) u (presentOf D x) c p ≡ x c p
+
+-- And from packets that sources encode to, with the present ones as they came, every order reads these sources' bits;
+
+-- what an order reads from packets: bit p of source c
+abbrev pub readFrom : (D : Desk) → List ℕ → {o : Order} {h : ℕ → ℕ} → Run D (λ c. 0) o h → Bits
+readFrom D packets u = readBy D (cameParity D packets) u (presentOf D (cameSource D packets))
+
+abbrev pub EveryOrderReadsThePackets : Type 0
+EveryOrderReadsThePackets =
+    (k m l : ℕ) (table : List ℕ) (marks : ℕ) (packets x : List ℕ) (o : Order) (h : ℕ → ℕ)
+    → let D = desk k m l table marks in
+    EncodesTo D packets x
+    → (u : Run D (λ c. 0) o h) (c p : ℕ)
+    → Gone D c
+    → p < h c
+    → readFrom D packets u c p ≡ sourcesOf D x c p
+
+-- one that finishes has read them whole;
+abbrev pub FinishedOrderHasThePackets : Type 0
+FinishedOrderHasThePackets =
+    (k m l : ℕ) (table : List ℕ) (marks : ℕ) (packets x : List ℕ) (o : Order) (h : ℕ → ℕ)
+    → let D = desk k m l table marks in
+    EncodesTo D packets x
+    → (u : Run D (λ c. 0) o h)
+    → Whole D h
+    → (c p : ℕ)
+    → c < k
+    → readFrom D packets u c p ≡ sourcesOf D x c p
+
+-- so from what encode all wrote, whatever packets are lost.
+abbrev pub EveryOrderReadsWhatEncodeAllWrote : Type 0
+EveryOrderReadsWhatEncodeAllWrote =
+    (k m l : ℕ) (table sources parities room : List ℕ)
+    → Bytes sources
+    → EncodedAll k m l table sources room 0 parities
+    → (marks : ℕ) (o : Order) (h : ℕ → ℕ)
+    → let D = desk k m l table marks in
+    (u : Run D (λ c. 0) o h) (c p : ℕ)
+    → Gone D c
+    → p < h c
+    → readFrom D (atHand k m l table sources parities marks) u c p ≡ sourcesOf D sources c p
 
 -- D3.5 Our rebuild reports this count, done or stalled.
 -- It is that of every order of steps, run until none is left.

@@ -1,4 +1,4 @@
--- The starred examples of document 01, each on a line and by name: a call, its input and its answer. proofs/Examples proves that every answer meets its call's promise.
+-- The starred examples of document 01 and some more, each on a line and by name: a call, its input and its answer. proofs/Examples proves that every answer meets its call's promise.
 use mathlib.Core.Path.{_≡_}
 use mathlib.Core.List.{List, [], _∷_}
 use Prim.Native.Nat.{ℕ}
@@ -56,7 +56,7 @@ pub data Name : Type 0 where
   judge-house judge-seven judge-eight : Name
   walk-both-parities walk-one-parity walk-no-parity walk-seven walk-eight walk-stuck : Name
   rebuild-both-parities rebuild-one-parity rebuild-no-parity rebuild-high-bits : Name
-  rebuild-one-above rebuild-no-sources rebuild-seven rebuild-eight rebuild-stuck : Name
+  rebuild-one-above rebuild-past-the-row rebuild-no-sources rebuild-seven rebuild-eight rebuild-stuck : Name
   block-two-bytes block-two-bytes-next block-no-bytes : Name
 
 -- bytes that a call is lent are 9; where a call has numbers k, m and L these are its first
@@ -77,9 +77,11 @@ example walk-stuck = walk 3 3 1 stuck 56 0 0 (0 ∷ 0 ∷ 0 ∷ 0 ∷ 0 ∷ 0 �
 example rebuild-both-parities = rebuild 2 2 1 house 12 (0x03 ∷ 0x00 ∷ 0x05 ∷ 0x00 ∷ []) (9 ∷ 9 ∷ []) 0 16 (0x01 ∷ 0x01 ∷ [])
 example rebuild-one-parity = rebuild 2 2 1 house 9 (0x01 ∷ 0x05 ∷ 0x00 ∷ []) (9 ∷ 9 ∷ []) 0 8 (0x01 ∷ 0x01 ∷ [])
 example rebuild-no-parity = rebuild 2 2 1 house 3 (0x01 ∷ 0x01 ∷ []) (9 ∷ 9 ∷ []) 0 0 (0x01 ∷ 0x01 ∷ [])
--- seven unknown bits lie below the lowest one; not in document 01
+-- seven unknown bits lie below the lowest one
 example rebuild-high-bits = rebuild 2 2 1 house 12 (0x00 ∷ 0x01 ∷ 0x80 ∷ 0x03 ∷ []) (9 ∷ 9 ∷ []) 0 16 (0x80 ∷ 0xC0 ∷ [])
 example rebuild-one-above = rebuild 2 2 1 house 12 (0x03 ∷ 0x00 ∷ 0x05 ∷ 0x04 ∷ []) (9 ∷ 9 ∷ []) 9 0 (9 ∷ 9 ∷ [])
+-- parity 1 has a one above its own row's last bit but not above the table's
+example rebuild-past-the-row = rebuild 2 2 1 house 12 (0x00 ∷ 0x02 ∷ 0x00 ∷ 0x00 ∷ []) (9 ∷ 9 ∷ []) 10 0 (9 ∷ 9 ∷ [])
 example rebuild-no-sources = rebuild 2 2 1 house 12 (0x03 ∷ 0x00 ∷ 0x05 ∷ 0x01 ∷ []) (9 ∷ 9 ∷ []) 10 0 (9 ∷ 9 ∷ [])
 example rebuild-seven = rebuild 2 2 1 seven 12 (0x03 ∷ 0x00 ∷ 0x05 ∷ 0x00 ∷ []) (9 ∷ 9 ∷ []) 8 7 (9 ∷ 9 ∷ [])
 example rebuild-eight = rebuild 2 2 1 eight 12 (0x01 ∷ 0x01 ∷ 0x01 ∷ 0x01 ∷ []) (9 ∷ 9 ∷ []) 0 16 (0x01 ∷ 0x01 ∷ [])
@@ -109,6 +111,7 @@ examples =
     ∷ rebuild-no-parity
     ∷ rebuild-high-bits
     ∷ rebuild-one-above
+    ∷ rebuild-past-the-row
     ∷ rebuild-no-sources
     ∷ rebuild-seven
     ∷ rebuild-eight

@@ -3,3 +3,4 @@ pub mod Marking
 pub mod Rows
 pub mod OneAnswer
 pub mod Sheets
+pub mod RuledOut

@@ -1,4 +1,5 @@
 pub mod CheckLaws
+pub mod ListLaws
 pub mod AnswerLaws
 pub mod MarkLaws
 pub mod TableLaws

@@ -17,6 +17,30 @@ abbrev pub Checked : Checks → ℕ → Type 0
 Checked [] n = n ≡ 0
 Checked (c ∷ cs) n = (c .1 × (n ≡ c .0)) ⊎ ((c .1 → ⊥) × Checked cs n)
 
+-- The list, in order of checking: first the class sheet's own number, then those of the code, then those of a block. A call makes the checks that it has the input for.
+abbrev pub theList : List ℕ
+theList = 18 ∷ 1 ∷ 2 ∷ 3 ∷ 6 ∷ 7 ∷ 17 ∷ 4 ∷ 5 ∷ 8 ∷ 9 ∷ 10 ∷ 11 ∷ 12 ∷ 13 ∷ 14 ∷ 15 ∷ 16 ∷ []
+
+-- numbers that are part of a list, in its order; the same may stand more than once, one right after the other
+abbrev pub InOrder : List ℕ → List ℕ → Type 0
+InOrder [] list = Unit
+InOrder (n ∷ ns) [] = ⊥
+InOrder (n ∷ ns) (x ∷ list) = ((n ≡ x) × InOrder ns (x ∷ list)) ⊎ InOrder (n ∷ ns) list
+
+-- the numbers of checks
+abbrev pub numbersOf : Checks → List ℕ
+numbersOf [] = []
+numbersOf (c ∷ cs) = c .0 ∷ numbersOf cs
+
+-- the checks are made in the order of the list
+abbrev pub Listed : Checks → Type 0
+Listed cs = InOrder (numbersOf cs) theList
+
+-- a check of number n refuses
+abbrev pub Refuses : Checks → ℕ → Type 0
+Refuses [] n = ⊥
+Refuses (c ∷ cs) n = (c .1 × (n ≡ c .0)) ⊎ Refuses cs n
+
 -- An answer to these checks: its number; refused, what holds then; else what was asked for.
 pub record Answered (checks : Checks) (number : ℕ) (Refused Done : Type 0) : Type 0 where
   pub numbered : Checked checks number

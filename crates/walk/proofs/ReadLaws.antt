@@ -12,7 +12,7 @@ use Rattle.table.specs.Desk.{Desk}
 use Rattle.code.specs.Code.{Bits, sumOf, parity, Source, Encodes}
 use Rattle.code.proofs.CodeLaws.{sum-of-same}
 use Rattle.walk.specs.Walk.{Order, bump, Gone, Bare, Run, done, step, Whole}
-use Rattle.walk.specs.Read.{put, Knows, read, learn, readBy}
+use Rattle.walk.specs.Read.{put, presentOf, Knows, read, learn, readBy}
 use Rattle.bits.proofs.UpLaws.{up-at, up-same, up-high}
 use Rattle.walk.proofs.Runs.{snoc}
 
@@ -74,23 +74,19 @@ module _ (D : Desk) where
         E .source .bit b (g b),
       )
 
-  -- the present sources of s, and blanks for the missing ones
-  unfoldable pub presentOf : Bits → Bits
-  presentOf s c p = cond (present c) (s c p) 0
-
-  pub presentOf-blank : (s : Bits) (c p : ℕ) → Gone D c → presentOf s c p ≡ 0
+  pub presentOf-blank : (s : Bits) (c p : ℕ) → Gone D c → presentOf D s c p ≡ 0
   unfolding presentOf
   presentOf-blank s c p gc = rw (gc .1)
 
-  pub presentOf-kept : (s : Bits) (c p : ℕ) → present c ≡ true → presentOf s c p ≡ s c p
+  pub presentOf-kept : (s : Bits) (c p : ℕ) → present c ≡ true → presentOf D s c p ≡ s c p
   unfolding presentOf
   presentOf-kept s c p mc = rw mc
 
-  pub presentOf-encodes : (r s x : Bits) → Encodes D r s x → Encodes D r (presentOf s) x
+  pub presentOf-encodes : (r s x : Bits) → Encodes D r s x → Encodes D r (presentOf D s) x
   presentOf-encodes r s x E = record { source = E .source; kept = λ c p lt mc. presentOf-kept s c p mc ∙ E .kept c p lt mc; made = E .made }
 
   -- sources encode to their own parities and to those of them that are present
-  pub own-encodes : (x : Bits) → Source D x → Encodes D (parity D x) (presentOf x) x
+  pub own-encodes : (x : Bits) → Source D x → Encodes D (parity D x) (presentOf D x) x
   own-encodes x X = record { source = X; kept = λ c p lt mc. presentOf-kept x c p mc; made = λ a q ha. refl }
 
   -- where nothing is uncovered yet
@@ -182,4 +178,4 @@ module _ (D : Desk) where
     -- two families of sources that encode to the same packets are equal wherever some order finishes
     pub sources-same : (s : Bits) {o : Order} {h : ℕ → ℕ} (u : Run D (λ c. 0) o h) → Whole D h → (x y : Bits) → Encodes D r s x → Encodes D r s y → (c p : ℕ) → c < k → x c p ≡ y c p
     sources-same s u w x y E F c p lt =
-        sym (only (presentOf s) (presentOf-blank s) u w x (presentOf-encodes r s x E) c p lt) ∙ only (presentOf s) (presentOf-blank s) u w y (presentOf-encodes r s y F) c p lt
+        sym (only (presentOf D s) (presentOf-blank s) u w x (presentOf-encodes r s x E) c p lt) ∙ only (presentOf D s) (presentOf-blank s) u w y (presentOf-encodes r s y F) c p lt

@@ -14,6 +14,10 @@ put s b p v c q = cond (eqb b c && eqb p q) v (s c q)
 module _ (D : Desk) where
   open Desk D using (k, shift, present)
 
+  -- the present sources of s, and blanks for the missing ones
+  unfoldable pub presentOf : Bits → Bits
+  presentOf s c p = cond (present c) (s c p) 0
+
   -- s holds the present sources of x, of each missing one the bits uncovered at progress g, and nothing else
   pub record Knows (x : Bits) (g : ℕ → ℕ) (s : Bits) : Type 0 where
     pub kept : (c p : ℕ) → c < k → present c ≡ true → s c p ≡ x c p

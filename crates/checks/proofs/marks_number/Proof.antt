@@ -19,7 +19,7 @@ shr-if1 : tie.Need-shr-if1
 shr-if1 c = search needs
 
 returns : tie.Need-returns
-returns c = let s = c .before in inl (mark-above (s .args .k + s .args .m) (s .args .marks) (c .if1 .taken), refl)
+returns c = let s = c .before in inl (mark-above (s .args .k + s .args .m) (s .args .marks) (λ z. omega arith), refl)
 
 cast-if2 : tie.Need-cast-if2
 cast-if2 c = omega (arith, ones-le 64 (c .before .args .marks) (c .before .fits .marks .fits))

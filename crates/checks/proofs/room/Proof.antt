@@ -1,12 +1,13 @@
 -- There is no room past the sources and none in a source that is present; a missing one has room for its bits. Assumes nothing.
 use mathlib.Core.Path.{sym, _∙_}
+use native.Mathlib.Omega.{arith}
 use Rattle.table.proofs.TableLaws.{room-outside, room-present, room-missing}
 use borrow.Author.Needs.{needs}
 use Rattle.checks.proofs.room.Statement.{statement}
 use Rattle.checks.proofs.room.Tie as tie
 
 returns : tie.Need-returns
-returns c = room-outside _ _ _ _ (c .if1 .taken)
+returns c = let s = c .before .before .args in room-outside (s .s .k) (s .s .length) (s .s .marks) (s .c) (omega arith)
 
 marked-requires : tie.Need-marked-requires
 marked-requires c κs = search needs

@@ -37,7 +37,7 @@ returns c =
     answer-stops (number s) (lent s) (c .before .one-of .result) _ (c .before .one-of .ensures) (c .if1 .taken) refl refl
 
 sub-packet-into : tie.Need-sub-packet-into
-sub-packet-into c = named c .1
+sub-packet-into c = omega (arith, named c .1)
 
 packet-into-requires : tie.Need-packet-into-requires
 packet-into-requires c κs =

@@ -11,7 +11,7 @@ part-requires : tie.Need-part-requires
 part-requires c κs =
     let t = c .before .before in
     let s = t .before .before .before .before .args in
-    look-ends (s .k) (s .m) (s .l) (s .table .now) (s .marks) (s .source) (s .survivors .now) (s .rebuilt .now) (t .look-at .ensures) .0 (c .if1 .taken)
+    look-ends (s .k) (s .m) (s .l) (s .table .now) (s .marks) (s .source) (s .survivors .now) (s .rebuilt .now) (t .look-at .ensures) .0
 
 returns : tie.Need-returns
 returns c = looked-rebuilt (c .before .before .before .look-at .ensures) (c .before .if1 .taken) (c .part .ensures)

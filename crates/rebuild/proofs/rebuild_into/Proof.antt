@@ -1,6 +1,6 @@
 -- The sources are read back into a room of their own, and copied out only with number 0. Assumes nothing.
 use borrow.Author.Needs.{needs}
-use mathlib.Core.Path.{sym, ap, _∙_}
+use mathlib.Core.Path.{_≡_, sym, ap, _∙_}
 use native.Mathlib.Omega.{arith}
 use lib.ListN.{take}
 use Rattle.bits.proofs.BitLaws.{zero-bits}
@@ -20,7 +20,8 @@ returns : tie.Need-returns
 returns c =
     let r = c .before .before .recover in
     let s = c .before .before .before .before .before .before in
-    made-refused (deskOf (s .args .s) (s .args .shifts .now)) (s .args .packets .now) (s .args .out .now) (r .result .number) (r .result .count) _ (c .if1 .taken) (r .ensures .0)
+    let refused : r .result .number ≡ 0 → ⊥ = λ z. omega arith in
+    made-refused (deskOf (s .args .s) (s .args .shifts .now)) (s .args .packets .now) (s .args .out .now) (r .result .number) (r .result .count) _ refused (r .ensures .0)
 
 slice-aggregate-copy-first : tie.Need-slice-aggregate-copy-first
 slice-aggregate-copy-first c = sym (c .before .before .before .before .recover .ensures .1)
@@ -40,7 +41,7 @@ returns-2 c =
     let s = c .before .before .before .before .before .before .before .before .before .before .before in
     let same = c .before .before .copy-first .ensures ∙ ap (λ n. take n (r .last .1 .1 .1 .0)) (s .pre .1 .1) in
     let D = deskOf (s .args .s) (s .args .shifts .now) in
-    let zero = c .before .before .before .before .before .if1 .left in
+    let zero : r .result .number ≡ 0 = omega arith in
     made-done D (s .args .packets .now) (s .args .out .now) (r .result .number) (r .result .count) _ _ zero same (r .ensures .0)
 
 pub rebuild-into-spec : {M : Type 1} → statement M

@@ -23,7 +23,8 @@ returns : tie.Need-returns
 returns c =
     let r = c .before .before .recover in
     let s = c .before .before .before .before .before .before .args in
-    answer-refused (decodeChecks (deskOf (s .s) (s .shifts .now)) (s .packets .now)) (r .result .number) _ (r .ensures .0 .numbered) (c .if1 .taken) refl refl
+    let refused : r .result .number ≡ 0 → ⊥ = λ z. omega arith in
+    answer-refused (decodeChecks (deskOf (s .s) (s .shifts .now)) (s .packets .now)) (r .result .number) _ (r .ensures .0 .numbered) refused refl refl
 
 slice-aggregate-encode-first : tie.Need-slice-aggregate-encode-first
 slice-aggregate-encode-first c = search needs
@@ -45,7 +46,8 @@ returns-2 c =
     let D = deskOf (s .s) (s .shifts .now) in
     let cs = decodeChecks D (s .packets .now) in
     let sources = take (sourcesBytes D) (r .last .1 .1 .1 .0) in
-    answer-done cs 0 (zero-checked cs (r .result .number) (e .if1 .left) (r .ensures .0 .numbered)) refl (sources, r .ensures .0 .done (e .if1 .left) .1, c .before .before .encode-first .ensures)
+    let zero : r .result .number ≡ 0 = omega arith in
+    answer-done cs 0 (zero-checked cs (r .result .number) zero (r .ensures .0 .numbered)) refl (sources, r .ensures .0 .done zero .1, c .before .before .encode-first .ensures)
 
 pub repair-into-spec : {M : Type 1} → statement M
 repair-into-spec =
