@@ -2,6 +2,8 @@
 #include "job.h"
 #include "windhawker.h"
 
+#include <stdio.h>
+#include <stdlib.h>
 #include <string.h>
 
 static uint8_t parities[WH_MAX_M * WH_LONGEST];
@@ -36,16 +38,25 @@ static const uint8_t *all_parities(void)
     return parities;
 }
 
+static void must(uint64_t number)
+{
+    if (number != WH_DONE) {
+        printf("refused: %s\n", wh_meaning(number));
+        exit(1);
+    }
+}
+
 static void library_encode(const job *j)
 {
-    wh_encode_all(j->k, j->m, LENGTH, j->table, j->m * j->k, j->sources, j->k * (size_t)LENGTH,
-                  parities, j->m * j->parity_bytes);
+    must(wh_encode_all(j->k, j->m, LENGTH, j->table, j->m * j->k, j->sources,
+                       j->k * (size_t)LENGTH, parities, j->m * j->parity_bytes));
 }
 
 static void library_rebuild(const job *j)
 {
-    wh_rebuild(j->k, j->m, LENGTH, j->table, j->m * j->k, marks, packets, packets_bytes, rebuilt,
-               j->k * (size_t)LENGTH);
+    must(wh_rebuild(j->k, j->m, LENGTH, j->table, j->m * j->k, marks, packets, packets_bytes,
+                    rebuilt, j->k * (size_t)LENGTH)
+             .number);
 }
 
 static void student_encode(const job *j)

@@ -148,8 +148,13 @@ static job make_job(unsigned k, unsigned m)
 {
     job j = {.k = k, .m = m, .lost = 1};
     uint64_t state = 1;
-    wh_family_table(k, m, j.table, m * k);
-    j.parity_bytes = (size_t)wh_packet_length(k, m, LENGTH, j.table, m * k, k + 1).length;
+    uint64_t number = wh_family_table(k, m, j.table, m * k);
+    wh_measured parity = wh_packet_length(k, m, LENGTH, j.table, m * k, k + 1);
+    if (number != WH_DONE || parity.number != WH_DONE) {
+        printf("there is no house table for k %u, m %u\n", k, m);
+        exit(1);
+    }
+    j.parity_bytes = (size_t)parity.length;
     for (size_t i = 0; i < sizeof j.sources; i++) {
         state = state * 6364136223846793005u + 1442695040888963407u;
         j.sources[i] = (uint8_t)(state >> 56);

@@ -48,8 +48,10 @@
  *      7  WH_MARKS           the marks are not exactly k
  *     17  WH_PROGRESS        a progress is above 8 * l, or is not 0 for a source at hand or for a
  *                            number above k
- *      4  WH_INPUT           an input buffer has not the exact length
- *      5  WH_OUTPUT          an output buffer has not the exact length
+ *      4  WH_INPUT           an input buffer has not the exact length: sources take k * l bytes,
+ *                            packets at hand take wh_survivors_length
+ *      5  WH_OUTPUT          an output buffer has not the exact length: a table takes m * k bytes,
+ *                            sources k * l, a packet wh_packet_length, all parities m times that
  *      8  WH_STALL           stalled: no order of steps finishes all missing sources
  *      9  WH_STRAY           a parity at hand has a one above bit 8 * l + r - 1
  *     10  WH_FOREIGN         no sources encode to these packets
@@ -63,12 +65,32 @@
  *   The program class_sheet has one more, before all others:
  *     18  WH_LINE            its input is not one line `k m L`
  *
+ * ERASURES, NOT ERRORS
+ *   The code fills in packets that are known to be lost. It does not find one that is there and
+ *   wrong: k packets tell nothing about which of them is bad. WH_STRAY and WH_FOREIGN notice only
+ *   what no sources encode to; anything else comes out as WH_DONE and wrong sources. Of all one-bit
+ *   errors at k, m, l = 4, 2, 48 with the house table, 52 of 9248 are noticed with one card lost
+ *   and the first four of the others used, 7154 of 23200 with two cards lost, and none where all
+ *   sources are at hand. More cards than needed tell more: rebuild from two choices of k cards and
+ *   compare. With one card to spare that shows every one of these errors. lab/6_errors.c counts.
+ *
  * WHAT YOU LEND
  *   A buffer is a pointer and its length in bytes, always in that order. No call reads or writes
  *   anything else, and none keeps a pointer after it returns. A refused call writes nothing: your
  *   output keeps its old bytes, and the results that come back by value are 0 unless a call says
- *   otherwise. Buffers that you lend to one call must not overlap. NULL with length 0 is fine.
- *   Any numbers and any bytes may be passed: nothing is cut to fewer bits on its way in.
+ *   otherwise. Buffers that you lend to one call must not overlap. Any numbers and any bytes may be
+ *   passed: nothing is cut to fewer bits on its way in, and lengths have 64 bits on every board.
+ *   NULL is a buffer of length 0, whatever length stands beside it, and is refused as that: with
+ *   WH_TABLE, WH_INPUT, WH_OUTPUT or WH_BLOCK_SHORT. Length 0 is right in one place only, the
+ *   destination of a block whose LEN is 0; for any other block it is WH_ROOM. Progress is not
+ *   NULL: it is always an array of WH_MAX_K numbers.
+ *
+ * WARNINGS
+ *   With -Wall, gcc and clang warn where a call's number or struct is not looked at at all, and where
+ *   progress is NULL. gcc, from 10 on, also warns where a buffer is shorter than the length beside
+ *   it, or is NULL with a length, as far as it knows both. It takes sources[0] of an array of arrays
+ *   for one of them: lend the whole as (uint8_t *)sources. A struct of which only the other members
+ *   are read passes: look at its number first.
  */
 #ifndef WINDHAWKER_H
 #define WINDHAWKER_H
@@ -81,6 +103,42 @@
 #define WH_VERSION "0.1.0"
 #define WH_VERSION_MAJOR 0
 #define WH_VERSION_MINOR 1
+
+/* What a compiler is told about the calls; one that does not know the words is told nothing.
+ * WH_LOOK_AT_IT: the answer is looked at. WH_READS(3, 4): parameter 3 is a buffer that is read, of
+ * as many bytes as parameter 4 says. WH_WRITES: the same of one that is written. WH_LENT: the same
+ * of one whose bytes are not looked at. WH_PLACE(8): parameter 8 is the place of such a one.
+ * WH_NEEDS(7): parameter 7 is not NULL. */
+#ifdef __has_attribute
+#if __has_attribute(__warn_unused_result__)
+#define WH_LOOK_AT_IT __attribute__((__warn_unused_result__))
+#endif
+#if __has_attribute(__access__)
+#define WH_READS(bytes, length) __attribute__((__access__(__read_only__, bytes, length)))
+#define WH_WRITES(bytes, length) __attribute__((__access__(__write_only__, bytes, length)))
+#endif
+#if __GNUC__ >= 11 && __has_attribute(__access__)
+#define WH_LENT(bytes, length) __attribute__((__access__(__none__, bytes, length)))
+#define WH_PLACE(bytes) __attribute__((__access__(__none__, bytes)))
+#endif
+#if __has_attribute(__nonnull__)
+#define WH_NEEDS(pointer) __attribute__((__nonnull__(pointer)))
+#endif
+#endif
+#ifndef WH_LOOK_AT_IT
+#define WH_LOOK_AT_IT
+#endif
+#ifndef WH_READS
+#define WH_READS(bytes, length)
+#define WH_WRITES(bytes, length)
+#endif
+#ifndef WH_LENT
+#define WH_LENT(bytes, length)
+#define WH_PLACE(bytes)
+#endif
+#ifndef WH_NEEDS
+#define WH_NEEDS(pointer)
+#endif
 
 #ifdef __cplusplus
 extern "C" {
@@ -101,9 +159,12 @@ static inline const char *wh_meaning(uint64_t number)
         {WH_SIZE, "k or m is outside 1 to " WH_TEXT(WH_MAX_K)},
         {WH_LENGTH, "the source length is outside 1 to " WH_TEXT(WH_MAX_LENGTH)},
         {WH_TABLE, "the table has a wrong length or an entry above " WH_TEXT(WH_MAX_SHIFT)},
-        {WH_INPUT, "an input buffer has a wrong length"},
-        {WH_OUTPUT, "an output buffer has a wrong length"},
-        {WH_PACKET, "no such packet, source or mark"},
+        {WH_INPUT, "an input buffer has not the exact length: sources take k * l bytes, packets "
+                   "at hand take wh_survivors_length"},
+        {WH_OUTPUT, "an output buffer has not the exact length: a table takes m * k bytes, sources "
+                    "k * l, a packet wh_packet_length, all parities m times that"},
+        {WH_PACKET, "no such packet, source or mark: packets are 1 to k + m, sources 1 to k, "
+                    "marks the lowest k + m bits"},
         {WH_MARKS, "the marks are not exactly k"},
         {WH_STALL, "the decoding stalls"},
         {WH_STRAY, "a parity has a one above its last bit"},
@@ -125,21 +186,23 @@ static inline const char *wh_meaning(uint64_t number)
     return "no number of the list";
 }
 
-/* The library wants a place even for no bytes, so NULL with length 0 becomes the place of one. */
-static inline const uint8_t *wh_read_place(const uint8_t *bytes, size_t length)
+/* The library wants a place even for no bytes, so NULL becomes the place of one. */
+WH_PLACE(1)
+static inline const uint8_t *wh_read_place(const uint8_t *bytes)
 {
     static const uint8_t nothing = 0;
-    return bytes == NULL && length == 0 ? &nothing : bytes;
+    return bytes == NULL ? &nothing : bytes;
 }
 
-static inline uint8_t *wh_write_place(uint8_t *bytes, size_t length)
+static inline uint8_t *wh_write_place(uint8_t *bytes)
 {
     static uint8_t nothing = 0;
-    return bytes == NULL && length == 0 ? &nothing : bytes;
+    return bytes == NULL ? &nothing : bytes;
 }
 
 /* The functions whx_ are what the archive exports: the number comes back, the other results go
- * into slots, which are set on every call. Use the functions wh_, which hand out structs. */
+ * into slots, which are set on every call. Use the functions wh_, which hand out structs and take
+ * NULL, whatever length stands beside it, for no bytes. */
 
 /* ---- Tables and lengths ---------------------------------------------------------------------- */
 
@@ -153,78 +216,91 @@ typedef struct {
     uint64_t length; /* in bytes */
 } wh_measured;
 
+WH_LOOK_AT_IT
 uint64_t whx_family_table(uint64_t k, uint64_t m, uint8_t *out, uint64_t out_len);
+WH_LOOK_AT_IT
 uint64_t whx_judge(uint64_t k, uint64_t m, const uint8_t *table, uint64_t table_len,
                    uint64_t *growing);
+WH_LOOK_AT_IT
 uint64_t whx_packet_length(uint64_t k, uint64_t m, uint64_t l, const uint8_t *table,
                            uint64_t table_len, uint64_t packet, uint64_t *length);
+WH_LOOK_AT_IT
 uint64_t whx_survivors_length(uint64_t k, uint64_t m, uint64_t l, const uint8_t *table,
                               uint64_t table_len, uint64_t marks, uint64_t *length);
 
 /* Writes the house table, m * k bytes: entry (a, b) is a * (b - 1). Checks 1 5. */
-static inline uint64_t wh_family_table(uint64_t k, uint64_t m, uint8_t *out, size_t out_len)
+WH_LOOK_AT_IT WH_WRITES(3, 4)
+static inline uint64_t wh_family_table(uint64_t k, uint64_t m, uint8_t *out, uint64_t out_len)
 {
-    return whx_family_table(k, m, wh_write_place(out, out_len), out_len);
+    return whx_family_table(k, m, wh_write_place(out), out == NULL ? 0 : out_len);
 }
 
 /* Says whether the table has growing differences: for rows a < a' and columns b < b',
  * entry (a, b') - entry (a, b) is less than entry (a', b') - entry (a', b). With such a table any
  * k packets work. Without, some may: wh_walk tells. Checks 1 3. */
-static inline wh_judged wh_judge(uint64_t k, uint64_t m, const uint8_t *table, size_t table_len)
+WH_LOOK_AT_IT WH_READS(3, 4)
+static inline wh_judged wh_judge(uint64_t k, uint64_t m, const uint8_t *table, uint64_t table_len)
 {
     wh_judged judged;
-    judged.number = whx_judge(k, m, wh_read_place(table, table_len), table_len, &judged.growing);
+    judged.number =
+        whx_judge(k, m, wh_read_place(table), table == NULL ? 0 : table_len, &judged.growing);
     return judged;
 }
 
 /* Gives the exact bytes of a packet: l for a source, P for a parity. Checks 1 2 3 6. */
+WH_LOOK_AT_IT WH_READS(4, 5)
 static inline wh_measured wh_packet_length(uint64_t k, uint64_t m, uint64_t l, const uint8_t *table,
-                                           size_t table_len, uint64_t packet)
+                                           uint64_t table_len, uint64_t packet)
 {
     wh_measured measured;
-    measured.number = whx_packet_length(k, m, l, wh_read_place(table, table_len), table_len, packet,
-                                        &measured.length);
+    measured.number = whx_packet_length(k, m, l, wh_read_place(table),
+                                        table == NULL ? 0 : table_len, packet, &measured.length);
     return measured;
 }
 
 /* Gives the exact bytes of all packets at hand together. Checks 1 2 3 6 7. */
+WH_LOOK_AT_IT WH_READS(4, 5)
 static inline wh_measured wh_survivors_length(uint64_t k, uint64_t m, uint64_t l,
-                                              const uint8_t *table, size_t table_len,
+                                              const uint8_t *table, uint64_t table_len,
                                               uint64_t marks)
 {
     wh_measured measured;
-    measured.number = whx_survivors_length(k, m, l, wh_read_place(table, table_len), table_len,
-                                           marks, &measured.length);
+    measured.number = whx_survivors_length(k, m, l, wh_read_place(table),
+                                           table == NULL ? 0 : table_len, marks, &measured.length);
     return measured;
 }
 
 /* ---- Encode ---------------------------------------------------------------------------------- */
 
+WH_LOOK_AT_IT
 uint64_t whx_encode_all(uint64_t k, uint64_t m, uint64_t l, const uint8_t *table,
                         uint64_t table_len, const uint8_t *sources, uint64_t sources_len,
                         uint8_t *out, uint64_t out_len);
+WH_LOOK_AT_IT
 uint64_t whx_encode_one(uint64_t k, uint64_t m, uint64_t l, const uint8_t *table,
                         uint64_t table_len, uint64_t packet, const uint8_t *sources,
                         uint64_t sources_len, uint8_t *out, uint64_t out_len);
 
 /* Writes all m parities, parity 1 first: m * P bytes. Checks 1 2 3 4 5. */
+WH_LOOK_AT_IT WH_READS(4, 5) WH_READS(6, 7) WH_WRITES(8, 9)
 static inline uint64_t wh_encode_all(uint64_t k, uint64_t m, uint64_t l, const uint8_t *table,
-                                     size_t table_len, const uint8_t *sources, size_t sources_len,
-                                     uint8_t *out, size_t out_len)
+                                     uint64_t table_len, const uint8_t *sources,
+                                     uint64_t sources_len, uint8_t *out, uint64_t out_len)
 {
-    return whx_encode_all(k, m, l, wh_read_place(table, table_len), table_len,
-                          wh_read_place(sources, sources_len), sources_len,
-                          wh_write_place(out, out_len), out_len);
+    return whx_encode_all(k, m, l, wh_read_place(table), table == NULL ? 0 : table_len,
+                          wh_read_place(sources), sources == NULL ? 0 : sources_len,
+                          wh_write_place(out), out == NULL ? 0 : out_len);
 }
 
 /* Writes one packet, a source or a parity: wh_packet_length bytes. Checks 1 2 3 6 4 5. */
+WH_LOOK_AT_IT WH_READS(4, 5) WH_READS(7, 8) WH_WRITES(9, 10)
 static inline uint64_t wh_encode_one(uint64_t k, uint64_t m, uint64_t l, const uint8_t *table,
-                                     size_t table_len, uint64_t packet, const uint8_t *sources,
-                                     size_t sources_len, uint8_t *out, size_t out_len)
+                                     uint64_t table_len, uint64_t packet, const uint8_t *sources,
+                                     uint64_t sources_len, uint8_t *out, uint64_t out_len)
 {
-    return whx_encode_one(k, m, l, wh_read_place(table, table_len), table_len, packet,
-                          wh_read_place(sources, sources_len), sources_len,
-                          wh_write_place(out, out_len), out_len);
+    return whx_encode_one(k, m, l, wh_read_place(table), table == NULL ? 0 : table_len, packet,
+                          wh_read_place(sources), sources == NULL ? 0 : sources_len,
+                          wh_write_place(out), out == NULL ? 0 : out_len);
 }
 
 /* ---- Walk and step --------------------------------------------------------------------------- */
@@ -243,8 +319,10 @@ typedef struct {
     uint64_t progress[WH_MAX_K]; /* after the step */
 } wh_stepped;
 
+WH_LOOK_AT_IT
 uint64_t whx_walk(uint64_t k, uint64_t m, uint64_t l, const uint8_t *table, uint64_t table_len,
                   uint64_t marks, uint64_t *count, uint64_t *whole, uint64_t progress[WH_MAX_K]);
+WH_LOOK_AT_IT
 uint64_t whx_next_step(uint64_t k, uint64_t m, uint64_t l, const uint8_t *table, uint64_t table_len,
                        uint64_t marks, const uint64_t progress[WH_MAX_K], uint64_t *parity,
                        uint64_t *source, uint64_t after[WH_MAX_K]);
@@ -252,11 +330,12 @@ uint64_t whx_next_step(uint64_t k, uint64_t m, uint64_t l, const uint8_t *table,
 /* Walks the decoding without data, from progress 0 until nothing is bare. A stall is no refusal
  * here: the number is 0 and whole is 0. Every order of steps ends at the same progress after the
  * same count. Checks 1 2 3 6 7. */
+WH_LOOK_AT_IT WH_READS(4, 5)
 static inline wh_walked wh_walk(uint64_t k, uint64_t m, uint64_t l, const uint8_t *table,
-                                size_t table_len, uint64_t marks)
+                                uint64_t table_len, uint64_t marks)
 {
     wh_walked walked;
-    walked.number = whx_walk(k, m, l, wh_read_place(table, table_len), table_len, marks,
+    walked.number = whx_walk(k, m, l, wh_read_place(table), table == NULL ? 0 : table_len, marks,
                              &walked.count, &walked.whole, walked.progress);
     return walked;
 }
@@ -264,13 +343,15 @@ static inline wh_walked wh_walk(uint64_t k, uint64_t m, uint64_t l, const uint8_
 /* Takes one step from the given progress: the bare pair with the lowest parity, and the progress
  * after it. With nothing bare the pair is (0, 0) and the progress is the same; refused, the pair
  * is (0, 0) and the progress all zeros. Checks 1 2 3 6 7 17. */
+WH_LOOK_AT_IT WH_READS(4, 5) WH_NEEDS(7)
 static inline wh_stepped wh_next_step(uint64_t k, uint64_t m, uint64_t l, const uint8_t *table,
-                                      size_t table_len, uint64_t marks,
+                                      uint64_t table_len, uint64_t marks,
                                       const uint64_t progress[WH_MAX_K])
 {
     wh_stepped stepped;
-    stepped.number = whx_next_step(k, m, l, wh_read_place(table, table_len), table_len, marks,
-                                   progress, &stepped.parity, &stepped.source, stepped.progress);
+    stepped.number =
+        whx_next_step(k, m, l, wh_read_place(table), table == NULL ? 0 : table_len, marks, progress,
+                      &stepped.parity, &stepped.source, stepped.progress);
     return stepped;
 }
 
@@ -288,12 +369,15 @@ typedef struct {
     uint64_t length; /* its bytes */
 } wh_looked;
 
+WH_LOOK_AT_IT
 uint64_t whx_rebuild(uint64_t k, uint64_t m, uint64_t l, const uint8_t *table, uint64_t table_len,
                      uint64_t marks, const uint8_t *packets, uint64_t packets_len, uint8_t *out,
                      uint64_t out_len, uint64_t *count);
+WH_LOOK_AT_IT
 uint64_t whx_repair(uint64_t k, uint64_t m, uint64_t l, const uint8_t *table, uint64_t table_len,
                     uint64_t marks, const uint8_t *packets, uint64_t packets_len, uint64_t packet,
                     uint8_t *out, uint64_t out_len);
+WH_LOOK_AT_IT WH_PLACE(8) WH_PLACE(10)
 uint64_t whx_look(uint64_t k, uint64_t m, uint64_t l, const uint8_t *table, uint64_t table_len,
                   uint64_t marks, uint64_t source, const uint8_t *survivors, uint64_t survivors_len,
                   const uint8_t *rebuilt, uint64_t rebuilt_len, uint64_t *buffer, uint64_t *start,
@@ -302,41 +386,46 @@ uint64_t whx_look(uint64_t k, uint64_t m, uint64_t l, const uint8_t *table, uint
 /* Writes all k sources, source 1 first, k * l bytes, from the k packets at hand, and gives the
  * steps it took. With WH_STALL the count is the steps made before the stall; with any other
  * refusal it is 0. Checks 1 2 3 6 7 4 5 8 9 10. */
+WH_LOOK_AT_IT WH_READS(4, 5) WH_READS(7, 8) WH_WRITES(9, 10)
 static inline wh_rebuilt wh_rebuild(uint64_t k, uint64_t m, uint64_t l, const uint8_t *table,
-                                    size_t table_len, uint64_t marks, const uint8_t *packets,
-                                    size_t packets_len, uint8_t *out, size_t out_len)
+                                    uint64_t table_len, uint64_t marks, const uint8_t *packets,
+                                    uint64_t packets_len, uint8_t *out, uint64_t out_len)
 {
     wh_rebuilt rebuilt;
-    rebuilt.number = whx_rebuild(k, m, l, wh_read_place(table, table_len), table_len, marks,
-                                 wh_read_place(packets, packets_len), packets_len,
-                                 wh_write_place(out, out_len), out_len, &rebuilt.count);
+    rebuilt.number = whx_rebuild(k, m, l, wh_read_place(table), table == NULL ? 0 : table_len,
+                                 marks, wh_read_place(packets), packets == NULL ? 0 : packets_len,
+                                 wh_write_place(out), out == NULL ? 0 : out_len, &rebuilt.count);
     return rebuilt;
 }
 
 /* Writes one packet as it is encoded from the rebuilt sources, be it lost or at hand:
  * wh_packet_length bytes. Checks 1 2 3 6 7 4 5 8 9 10. */
+WH_LOOK_AT_IT WH_READS(4, 5) WH_READS(7, 8) WH_WRITES(10, 11)
 static inline uint64_t wh_repair(uint64_t k, uint64_t m, uint64_t l, const uint8_t *table,
-                                 size_t table_len, uint64_t marks, const uint8_t *packets,
-                                 size_t packets_len, uint64_t packet, uint8_t *out, size_t out_len)
+                                 uint64_t table_len, uint64_t marks, const uint8_t *packets,
+                                 uint64_t packets_len, uint64_t packet, uint8_t *out,
+                                 uint64_t out_len)
 {
-    return whx_repair(k, m, l, wh_read_place(table, table_len), table_len, marks,
-                      wh_read_place(packets, packets_len), packets_len, packet,
-                      wh_write_place(out, out_len), out_len);
+    return whx_repair(k, m, l, wh_read_place(table), table == NULL ? 0 : table_len, marks,
+                      wh_read_place(packets), packets == NULL ? 0 : packets_len, packet,
+                      wh_write_place(out), out == NULL ? 0 : out_len);
 }
 
 /* Finds one source for reading, without a copy: in the survivors' buffer when its card is there,
  * else in the buffer of rebuilt sources. What the buffers hold is not checked. Refused, the part
  * is empty. Checks 1 2 3 6 7 4. */
+WH_LOOK_AT_IT WH_READS(4, 5) WH_LENT(8, 9) WH_LENT(10, 11)
 static inline wh_looked wh_look(uint64_t k, uint64_t m, uint64_t l, const uint8_t *table,
-                                size_t table_len, uint64_t marks, uint64_t source,
-                                const uint8_t *survivors, size_t survivors_len,
-                                const uint8_t *rebuilt, size_t rebuilt_len)
+                                uint64_t table_len, uint64_t marks, uint64_t source,
+                                const uint8_t *survivors, uint64_t survivors_len,
+                                const uint8_t *rebuilt, uint64_t rebuilt_len)
 {
     wh_looked looked;
-    looked.number = whx_look(k, m, l, wh_read_place(table, table_len), table_len, marks, source,
-                             wh_read_place(survivors, survivors_len), survivors_len,
-                             wh_read_place(rebuilt, rebuilt_len), rebuilt_len, &looked.buffer,
-                             &looked.start, &looked.length);
+    looked.number =
+        whx_look(k, m, l, wh_read_place(table), table == NULL ? 0 : table_len, marks, source,
+                 wh_read_place(survivors), survivors == NULL ? 0 : survivors_len,
+                 wh_read_place(rebuilt), rebuilt == NULL ? 0 : rebuilt_len, &looked.buffer,
+                 &looked.start, &looked.length);
     return looked;
 }
 
@@ -346,10 +435,10 @@ static inline const uint8_t *wh_look_at(wh_looked looked, const uint8_t *survivo
                                         const uint8_t *rebuilt)
 {
     if (looked.buffer == 1) {
-        return survivors + (size_t)looked.start;
+        return survivors + looked.start;
     }
     if (looked.buffer == 2) {
-        return rebuilt + (size_t)looked.start;
+        return rebuilt + looked.start;
     }
     return NULL;
 }
@@ -361,18 +450,20 @@ typedef struct {
     uint64_t length; /* information bytes */
 } wh_taken;
 
+WH_LOOK_AT_IT
 uint64_t whx_block(const uint8_t *block, uint64_t block_len, uint8_t *dest, uint64_t dest_len,
                    uint64_t *length);
 
 /* Takes one block from a card reader, whose bytes are NAD, PCB, LEN, information, LRC: copies the
  * information to the front of the destination and gives how many bytes that were. The rest of the
  * destination keeps its bytes. Checks 11 12 13 14 15 16. */
-static inline wh_taken wh_block(const uint8_t *block, size_t block_len, uint8_t *dest,
-                                size_t dest_len)
+WH_LOOK_AT_IT WH_READS(1, 2) WH_WRITES(3, 4)
+static inline wh_taken wh_block(const uint8_t *block, uint64_t block_len, uint8_t *dest,
+                                uint64_t dest_len)
 {
     wh_taken taken;
-    taken.number = whx_block(wh_read_place(block, block_len), block_len,
-                             wh_write_place(dest, dest_len), dest_len, &taken.length);
+    taken.number = whx_block(wh_read_place(block), block == NULL ? 0 : block_len,
+                             wh_write_place(dest), dest == NULL ? 0 : dest_len, &taken.length);
     return taken;
 }
 

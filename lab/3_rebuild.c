@@ -84,7 +84,7 @@ int main(void)
 
     printf("\nThree cards lost: ");
     rebuild_from(0x18);
-    printf("One bit of card 4 turned over: ");
+    printf("One bit of card 4 turned over, and noticed; lesson 6 counts those that are not: ");
     size_t length = gather(0x1A, packets);
     packets[L] ^= 1;
     show_rebuilt(0x1A, packets, length);

@@ -3,26 +3,42 @@
  *   4_steps            with the house table, shifts 0 1 and 0 2
  *   4_steps 0 7 0 7    with these shifts: parity 1's two, then parity 2's
  *
- * Both sources are lost and both parities are at hand. wh_next_step says which pair is bare; the
- * program reads that bit in the parity and draws where it stands. */
+ * MARKS says which two cards are at hand. With 12 these are the two parities, and both sources are
+ * lost. wh_next_step says which pair is bare; the program reads that bit in the parity and draws
+ * where it stands. */
 #include "show.h"
 
 #include <string.h>
 
 enum { K = 2, M = 2, L = 1, BITS = 8 * L, MARKS = 12 };
 
+static const char usage[] =
+    "usage: 4_steps [SHIFT SHIFT SHIFT SHIFT], parity 1's two, then parity 2's, "
+    "each 0 to " WH_TEXT(WH_MAX_SHIFT) "\n";
+
 typedef struct {
     uint8_t table[M * K];
     uint8_t parities[M * WH_LONGEST];
     size_t length;               /* bytes of a parity */
     uint64_t places;             /* bits of a parity that can be ones */
-    uint64_t progress[WH_MAX_K]; /* bits uncovered of each source */
-    uint8_t sources[K * L];      /* those bits */
+    uint64_t progress[WH_MAX_K]; /* bits uncovered of each missing source */
+    uint8_t sources[K * L];      /* those bits, and the sources at hand */
 } decoding;
+
+static int at_hand(uint64_t packet)
+{
+    return MARKS >> (packet - 1) & 1;
+}
 
 static uint64_t entry(const decoding *d, uint64_t a, uint64_t b)
 {
     return d->table[(a - 1) * K + b - 1];
+}
+
+/* How many bits of source b are known, lowest first: all of them when its card is at hand. */
+static uint64_t known(const decoding *d, uint64_t b)
+{
+    return at_hand(b) ? BITS : d->progress[b - 1];
 }
 
 /* The bit at a place of parity a once all known bits are taken out, each at its shifted place. */
@@ -31,7 +47,7 @@ static int read_bit(const decoding *d, uint64_t a, uint64_t place)
     int bit = bit_of(d->parities + (a - 1) * d->length, place);
     for (uint64_t b = 1; b <= K; b++) {
         uint64_t shift = entry(d, a, b);
-        if (place >= shift && place - shift < d->progress[b - 1]) {
+        if (place >= shift && place - shift < known(d, b)) {
             bit ^= bit_of(d->sources + (b - 1) * L, place - shift);
         }
     }
@@ -44,14 +60,14 @@ static char source_shown(const decoding *d, uint64_t a, uint64_t b, uint64_t pla
     if (place < entry(d, a, b) || p >= BITS) {
         return ' ';
     }
-    if (p < d->progress[b - 1]) {
+    if (p < known(d, b)) {
         return bit_of(d->sources + (b - 1) * L, p) ? '1' : '0';
     }
-    return p == d->progress[b - 1] ? '?' : '.';
+    return p == known(d, b) ? '?' : '.';
 }
 
 /* ---- The picture: a line for the places, one for what stands on the cards, one for each source,
- *      and in each line first parity 1, then parity 2 ---- */
+ *      and in each line the parities at hand, side by side ---- */
 
 static char line[1000];
 static size_t used;
@@ -83,9 +99,11 @@ static void draw_places(const decoding *d)
 {
     begin_line("place");
     for (uint64_t i = 0; i < M * (d->places + 2); i++) {
-        uint64_t place = i % (d->places + 2);
-        put(' ');
-        put(place < d->places ? '0' + (int)(place % 10) : ' ');
+        uint64_t a = i / (d->places + 2) + 1, place = i % (d->places + 2);
+        if (at_hand(K + a)) {
+            put(' ');
+            put(place < d->places ? '0' + (int)(place % 10) : ' ');
+        }
     }
     end_line();
 }
@@ -95,8 +113,10 @@ static void draw_cards(const decoding *d)
     begin_line("on card");
     for (uint64_t i = 0; i < M * (d->places + 2); i++) {
         uint64_t a = i / (d->places + 2) + 1, place = i % (d->places + 2);
-        put(' ');
-        put(place < d->places ? '0' + bit_of(d->parities + (a - 1) * d->length, place) : ' ');
+        if (at_hand(K + a)) {
+            put(' ');
+            put(place < d->places ? '0' + bit_of(d->parities + (a - 1) * d->length, place) : ' ');
+        }
     }
     end_line();
 }
@@ -104,9 +124,9 @@ static void draw_cards(const decoding *d)
 /* Source b as it stands in parity a, the bare bit in brackets. */
 static void draw_source(const decoding *d, uint64_t a, uint64_t b, const wh_stepped *step)
 {
-    uint64_t bare = entry(d, a, b) + d->progress[b - 1];
+    uint64_t bare = entry(d, a, b) + known(d, b);
     int marked = step->parity == a && step->source == b;
-    for (uint64_t place = 0; place < d->places + 2; place++) {
+    for (uint64_t place = 0; at_hand(K + a) && place < d->places + 2; place++) {
         put(marked && place == bare ? '[' : marked && place == bare + 1 ? ']' : ' ');
         put(marked && place == bare ? '0' + read_bit(d, a, place) : source_shown(d, a, b, place));
     }
@@ -144,6 +164,7 @@ static void take(decoding *d, const wh_stepped *step)
     memcpy(d->progress, step->progress, sizeof d->progress);
 }
 
+/* The cards: the parities, and those sources that are not lost. */
 static void begin(decoding *d)
 {
     static const uint8_t recorded[K * L] = {'H', 'i'};
@@ -156,6 +177,11 @@ static void begin(decoding *d)
     for (size_t i = 0; i < M * K; i++) {
         uint64_t top = BITS + (uint64_t)d->table[i];
         d->places = d->places < top ? top : d->places;
+    }
+    for (uint64_t b = 1; b <= K; b++) {
+        if (at_hand(b)) {
+            memcpy(d->sources + (b - 1) * L, recorded + (b - 1) * L, L);
+        }
     }
 }
 
@@ -176,19 +202,55 @@ static void decode(decoding *d)
     draw(d, &step);
 }
 
+/* ---- The words around it ---- */
+
+/* Says whether the words are the shifts of a table, which is then theirs. */
+static int read_table(int words, char **word, uint8_t table[M * K])
+{
+    if (words != M * K) {
+        return 0;
+    }
+    for (int i = 0; i < words; i++) {
+        uint64_t shift;
+        if (!read_number(word[i], WH_MAX_SHIFT, &shift)) {
+            return 0;
+        }
+        table[i] = (uint8_t)shift;
+    }
+    return 1;
+}
+
+/* Two cards are at hand, so as many parities are there as sources are missing. */
+static void say_what_is_lost(void)
+{
+    if (at_hand(1) && at_hand(2)) {
+        printf("Both sources are at hand: nothing is lost that matters.\n");
+    } else if (at_hand(1) || at_hand(2)) {
+        printf("Source %d, of one byte, is lost. Source %d and parity %d are at hand.\n",
+               at_hand(1) ? 2 : 1, at_hand(1) ? 1 : 2, at_hand(K + 1) ? 1 : 2);
+    } else {
+        printf("Two sources of one byte are lost. "
+               "Parity 1 is on the left, parity 2 on the right.\n");
+    }
+    printf("0 and 1 are known bits, ? is the next one, . a later one, [ ] the bare one.\n\n");
+}
+
 int main(int words, char **word)
 {
     decoding d = {.table = {0}};
-    must(wh_family_table(K, M, d.table, sizeof d.table), "wh_family_table");
-    for (int i = 1; i < words && i <= M * K; i++) {
-        long shift = strtol(word[i], NULL, 10);
-        d.table[i - 1] = shift < 0 || shift > UINT8_MAX ? UINT8_MAX : (uint8_t)shift;
+    if (words == 1) {
+        must(wh_family_table(K, M, d.table, sizeof d.table), "wh_family_table");
+    } else if (!read_table(words - 1, word + 1, d.table)) {
+        fputs(usage, stderr);
+        return 2;
     }
+    wh_walked walked = wh_walk(K, M, L, d.table, sizeof d.table, MARKS);
+    must(walked.number, "wh_walk");
+
     begin(&d);
-    printf("Two sources of one byte are lost. Parity 1 is on the left, parity 2 on the right.\n"
-           "0 and 1 are known bits, ? is the next one, . a later one, [ ] the bare one.\n\n");
+    say_what_is_lost();
     decode(&d);
-    if (d.progress[0] == BITS && d.progress[1] == BITS) {
+    if (walked.whole) {
         printf("Every bit is uncovered: \"%.*s\".\n", K * L, (const char *)d.sources);
     } else {
         printf("Stalled: in each parity the next bits of both sources stand at one place.\n");

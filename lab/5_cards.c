@@ -1,7 +1,8 @@
-/* Lesson 5: a log file onto card files, and back from any k of them. */
-#include "show.h"
+/* Lesson 5: a log file onto card files, and back from any k of them. A program that ends badly must
+ * not have spoiled what was there: files.h sees to that. */
+#define _POSIX_C_SOURCE 200809L /* for stat, lstat and access, which C99 alone does not have */
 
-#include <string.h>
+#include "files.h"
 
 static const char help[] =
     "cards write K M L LOG CARDS_DIR\n"
@@ -14,204 +15,286 @@ static const char help[] =
     "the log ends.\n"
     "\n"
     "read looks which card files are there and writes LOG from the first K of them. A card file\n"
-    "that is not as long as LENGTH wants it counts as lost.\n"
+    "that is not as long as LENGTH wants it counts as lost. K, M, L and LENGTH stand on no card:\n"
+    "note them down. read refuses what it can tell is wrong, but with other numbers than those of\n"
+    "the write, and nothing but sources at hand, a wrong log can come out.\n"
     "\n"
     "K and M are 1 to " WH_TEXT(WH_MAX_K) ", L is 1 to " WH_TEXT(WH_MAX_LENGTH) ".\n";
+
+enum { CARDS_MOST = WH_MAX_K + WH_MAX_M };
 
 typedef struct {
     uint64_t k, m, l;
     uint8_t table[WH_MAX_M * WH_MAX_K];
     size_t table_len;
     size_t stripe; /* bytes of the log in a stripe */
-} code;
+    const char *log, *folder;
+} job;
 
-enum { CARDS_MOST = WH_MAX_K + WH_MAX_M };
-
-static void give_up(const char *what, const char *name)
-{
-    fprintf(stderr, "cards: %s %s\n", what, name);
-    exit(1);
-}
+/* ---- The job ---- */
 
 static uint64_t number_in(const char *word)
 {
-    char *end;
-    uint64_t number = strtoull(word, &end, 10);
-    if (*word < '0' || *word > '9' || *end != '\0') {
-        give_up("not a number:", word);
+    uint64_t number = 0;
+    if (!read_number(word, UINT64_MAX, &number)) {
+        refuse("not a number:", word);
     }
     return number;
 }
 
-static FILE *open_file(const char *name, const char *mode)
+static size_t packet_length(const job *j, uint64_t packet)
 {
-    FILE *file = fopen(name, mode);
-    if (file == NULL) {
-        give_up("cannot open", name);
-    }
-    return file;
-}
-
-/* What was written is only on the disk when the file is closed without complaint. */
-static void close_written(FILE *file, const char *name)
-{
-    int bad = ferror(file);
-    if (fclose(file) != 0 || bad) {
-        give_up("cannot write", name);
-    }
-}
-
-static void name_card(char name[FILENAME_MAX], const char *folder, uint64_t packet)
-{
-    int length = snprintf(name, FILENAME_MAX, "%s/card_%" PRIu64, folder, packet);
-    if (length < 0 || length >= FILENAME_MAX) {
-        give_up("too long a name:", folder);
-    }
-}
-
-static size_t packet_length(const code *c, uint64_t packet)
-{
-    wh_measured measured = wh_packet_length(c->k, c->m, c->l, c->table, c->table_len, packet);
+    wh_measured measured = wh_packet_length(j->k, j->m, j->l, j->table, j->table_len, packet);
     must(measured.number, "cards:");
     return (size_t)measured.length;
 }
 
-static code house_code(char **word)
+/* The job for the words K M L, with the house table. */
+static job new_job(char **word, const char *log, const char *folder)
 {
-    code c = {number_in(word[0]), number_in(word[1]), number_in(word[2]), {0}, 0, 0};
-    c.table_len = c.k <= WH_MAX_K && c.m <= WH_MAX_M ? (size_t)(c.k * c.m) : 0;
-    must(wh_family_table(c.k, c.m, c.table, c.table_len), "cards:");
-    c.stripe = (size_t)c.k * packet_length(&c, 1);
-    return c;
+    job j = {.k = number_in(word[0]), .m = number_in(word[1]), .l = number_in(word[2])};
+    j.table_len = j.k <= WH_MAX_K && j.m <= WH_MAX_M ? (size_t)(j.k * j.m) : 0;
+    must(wh_family_table(j.k, j.m, j.table, j.table_len), "cards:");
+    j.stripe = (size_t)j.k * packet_length(&j, 1);
+    j.log = log;
+    j.folder = folder;
+    return j;
+}
+
+static void name_card(char name[NAME_MOST], const job *j, uint64_t packet)
+{
+    char card[40];
+    snprintf(card, sizeof card, "/card_%" PRIu64, packet);
+    join(name, j->folder, card);
+}
+
+/* The log is none of the cards, and no two cards are one file. */
+static void refuse_files_given_twice(const job *j)
+{
+    char card[NAME_MOST], other[NAME_MOST];
+    for (uint64_t packet = 1; packet <= j->k + j->m; packet++) {
+        name_card(card, j, packet);
+        if (same_file(card, j->log)) {
+            refuse("the log is one of the cards:", j->log);
+        }
+        for (uint64_t before = 1; before < packet; before++) {
+            name_card(other, j, before);
+            if (same_file(card, other)) {
+                refuse("the same file as a card before it:", card);
+            }
+        }
+    }
+}
+
+/* A write that was broken off leaves files beside the cards, and perhaps only some cards new. */
+static void refuse_half_written(const job *j)
+{
+    char card[NAME_MOST], beside[NAME_MOST];
+    struct stat found;
+    for (uint64_t packet = 1; packet <= j->k + j->m; packet++) {
+        name_card(card, j, packet);
+        join(beside, card, ".new");
+        if (lstat(beside, &found) == 0) {
+            refuse("a write was broken off, and the cards may be of two logs:", beside);
+        }
+    }
 }
 
 /* ---- Write ---- */
 
-static void write_stripe(const code *c, const uint8_t *sources, FILE *const *cards)
+/* The next stripe of the log, filled up with zeros. Gives how many bytes the log had for it. */
+static size_t read_stripe(const job *j, FILE *log, uint8_t *sources)
+{
+    size_t got = fread(sources, 1, j->stripe, log);
+    if (ferror(log)) {
+        fail("cannot read", j->log);
+    }
+    memset(sources + got, 0, j->stripe - got);
+    return got;
+}
+
+static void write_stripe(const job *j, const uint8_t *sources)
 {
     uint8_t bytes[WH_LONGEST];
-    for (uint64_t packet = 1; packet <= c->k + c->m; packet++) {
-        size_t length = packet_length(c, packet);
-        must(wh_encode_one(c->k, c->m, c->l, c->table, c->table_len, packet, sources, c->stripe,
+    for (uint64_t packet = 1; packet <= j->k + j->m; packet++) {
+        size_t length = packet_length(j, packet);
+        must(wh_encode_one(j->k, j->m, j->l, j->table, j->table_len, packet, sources, j->stripe,
                            bytes, length),
              "cards:");
-        fwrite(bytes, 1, length, cards[packet - 1]);
+        put(&outputs[packet - 1], bytes, length);
     }
 }
 
 /* Gives the log's length. */
-static uint64_t write_stripes(const code *c, FILE *log, FILE *const *cards)
+static uint64_t write_stripes(const job *j, FILE *log)
 {
     uint8_t sources[WH_MAX_K * WH_MAX_LENGTH];
     uint64_t written = 0;
-    size_t got = fread(sources, 1, c->stripe, log);
+    size_t got = read_stripe(j, log, sources);
     while (got > 0) {
-        memset(sources + got, 0, c->stripe - got);
-        write_stripe(c, sources, cards);
+        write_stripe(j, sources);
         written += got;
-        got = fread(sources, 1, c->stripe, log);
+        got = read_stripe(j, log, sources);
     }
     return written;
 }
 
-static void write_cards(const code *c, const char *log_name, const char *folder)
+static void write_cards(const job *j)
 {
-    FILE *log = open_file(log_name, "rb"), *cards[CARDS_MOST];
-    char name[FILENAME_MAX];
-    for (uint64_t packet = 1; packet <= c->k + c->m; packet++) {
-        name_card(name, folder, packet);
-        cards[packet - 1] = open_file(name, "wb");
+    char name[NAME_MOST];
+    FILE *log = fopen(j->log, "rb");
+    if (log == NULL) {
+        fail("cannot open", j->log);
     }
-    uint64_t length = write_stripes(c, log, cards);
-    if (ferror(log)) {
-        give_up("cannot read", log_name);
+    refuse_files_given_twice(j);
+    for (uint64_t packet = 1; packet <= j->k + j->m; packet++) {
+        name_card(name, j, packet);
+        begin_output(name);
     }
+    uint64_t length = write_stripes(j, log);
     fclose(log);
-    for (uint64_t packet = 1; packet <= c->k + c->m; packet++) {
-        name_card(name, folder, packet);
-        close_written(cards[packet - 1], name);
-    }
-    printf("%" PRIu64 " bytes on %" PRIu64 " cards\n", length, c->k + c->m);
+    finish_outputs();
+    printf("%" PRIu64 " bytes on %" PRIu64 " cards\n", length, j->k + j->m);
 }
 
 /* ---- Read ---- */
 
-/* The card's file, or NULL when it is not there or not as long as it has to be. */
-static FILE *open_card(const code *c, const char *folder, uint64_t packet, uint64_t stripes)
+static FILE *count_as_lost(const char *name, const char *why)
 {
-    char name[FILENAME_MAX];
-    name_card(name, folder, packet);
-    FILE *card = fopen(name, "rb");
-    if (card == NULL) {
-        return NULL;
-    }
-    fseek(card, 0, SEEK_END);
-    long length = ftell(card);
-    if (length < 0 || (uint64_t)length != stripes * packet_length(c, packet)) {
-        fprintf(stderr, "cards: %s has a wrong length and counts as lost\n", name);
-        fclose(card);
-        return NULL;
-    }
-    rewind(card);
-    return card;
+    fprintf(stderr, "cards: %s counts as lost: %s\n", name, why);
+    return NULL;
 }
 
-/* Opens the first k cards that are there, and gives their marks. */
-static uint64_t open_cards(const code *c, const char *folder, uint64_t stripes, FILE **cards)
+/* The card's file if it has a packet for each stripe; NULL when the card counts as lost. Files of
+ * another length are counted. */
+static FILE *open_card(const job *j, uint64_t packet, uint64_t stripes, unsigned *wrong_lengths)
 {
-    uint64_t marks = 0, found = 0;
-    for (uint64_t packet = 1; packet <= c->k + c->m && found < c->k; packet++) {
-        cards[packet - 1] = open_card(c, folder, packet, stripes);
-        if (cards[packet - 1] != NULL) {
+    struct stat found;
+    char name[NAME_MOST];
+    name_card(name, j, packet);
+    if (stat(name, &found) != 0) {
+        return errno == ENOENT ? NULL : count_as_lost(name, strerror(errno));
+    }
+    if (!S_ISREG(found.st_mode)) {
+        return count_as_lost(name, "not a plain file");
+    }
+    uint64_t length = (uint64_t)found.st_size, each = packet_length(j, packet);
+    if (length / each != stripes || length % each != 0) {
+        fprintf(stderr,
+                "cards: %s has a wrong length and counts as lost: %" PRIu64 " bytes, not %" PRIu64
+                " packets of %" PRIu64 "\n",
+                name, length, stripes, each);
+        (*wrong_lengths)++;
+        return NULL;
+    }
+    FILE *card = fopen(name, "rb");
+    return card != NULL ? card : count_as_lost(name, strerror(errno));
+}
+
+/* Opens the first k cards that are there, and gives their marks. The others are looked at too: the
+ * lengths of sources do not tell L from half of L, those of parities do. */
+static uint64_t open_cards(const job *j, uint64_t stripes, FILE **cards)
+{
+    uint64_t marks = 0, found = 0, parities = 0;
+    unsigned wrong_sources = 0, wrong_parities = 0;
+    for (uint64_t packet = 1; packet <= j->k + j->m; packet++) {
+        FILE *card =
+            open_card(j, packet, stripes, packet <= j->k ? &wrong_sources : &wrong_parities);
+        parities += card != NULL && packet > j->k;
+        if (card != NULL && found < j->k) {
+            cards[packet - 1] = card;
             marks |= (uint64_t)1 << (packet - 1);
             found++;
+        } else if (card != NULL) {
+            fclose(card);
         }
     }
-    if (found < c->k) {
-        give_up("fewer than K cards in", folder);
+    int doubtful = parities == 0 && wrong_parities > 0;
+    if (doubtful || (found < j->k && wrong_sources + wrong_parities > 0)) {
+        fputs("cards: perhaps K, M, L or LENGTH is not what these were written with\n", stderr);
+    }
+    if (found < j->k) {
+        refuse("fewer than K cards in", j->folder);
+    }
+    if (doubtful) {
+        refuse("no parity has its length in", j->folder);
     }
     return marks;
 }
 
-static size_t read_packets(const code *c, uint64_t marks, FILE *const *cards, uint8_t *packets)
+static void read_packet(const job *j, uint64_t packet, FILE *card, uint8_t *bytes, size_t length)
+{
+    char name[NAME_MOST];
+    if (fread(bytes, 1, length, card) == length) {
+        return;
+    }
+    name_card(name, j, packet);
+    if (ferror(card)) {
+        fail("cannot read", name);
+    }
+    refuse("shorter than it was:", name);
+}
+
+/* The next stripe's packets, one after another. Gives their bytes. */
+static size_t read_packets(const job *j, uint64_t marks, FILE *const *cards, uint8_t *packets)
 {
     size_t used = 0;
-    for (uint64_t packet = 1; packet <= c->k + c->m; packet++) {
+    for (uint64_t packet = 1; packet <= j->k + j->m; packet++) {
         if (marks >> (packet - 1) & 1) {
-            used += fread(packets + used, 1, packet_length(c, packet), cards[packet - 1]);
+            size_t length = packet_length(j, packet);
+            read_packet(j, packet, cards[packet - 1], packets + used, length);
+            used += length;
         }
     }
     return used;
 }
 
-/* A log that cannot be read whole is not left behind. */
-static void read_stripes(const code *c, uint64_t marks, FILE *const *cards, uint64_t length,
-                         const char *log_name)
+/* Rebuilds the next stripe, whose first byte is byte `done` of the log. */
+static void rebuild_stripe(const job *j, uint64_t marks, FILE *const *cards, uint64_t done,
+                           uint8_t *sources)
 {
-    uint8_t packets[WH_MAX_K * WH_LONGEST], sources[WH_MAX_K * WH_MAX_LENGTH];
-    FILE *log = open_file(log_name, "wb");
-    for (uint64_t read = 0; read < length; read += c->stripe) {
-        size_t got = read_packets(c, marks, cards, packets);
-        wh_rebuilt rebuilt = wh_rebuild(c->k, c->m, c->l, c->table, c->table_len, marks, packets,
-                                        got, sources, c->stripe);
-        if (rebuilt.number != WH_DONE) {
-            fprintf(stderr, "cards: stripe %" PRIu64 ": %" PRIu64 ", %s\n", read / c->stripe + 1,
-                    rebuilt.number, wh_meaning(rebuilt.number));
-            fclose(log);
-            remove(log_name);
-            exit(1);
-        }
-        fwrite(sources, 1, length - read < c->stripe ? (size_t)(length - read) : c->stripe, log);
+    uint8_t packets[WH_MAX_K * WH_LONGEST];
+    size_t got = read_packets(j, marks, cards, packets);
+    wh_rebuilt rebuilt = wh_rebuild(j->k, j->m, j->l, j->table, j->table_len, marks, packets, got,
+                                    sources, j->stripe);
+    if (rebuilt.number != WH_DONE) {
+        fprintf(stderr, "cards: stripe %" PRIu64 ": %" PRIu64 ", %s\n", done / j->stripe + 1,
+                rebuilt.number, wh_meaning(rebuilt.number));
+        exit(1);
     }
-    close_written(log, log_name);
 }
 
-static void read_cards(const code *c, uint64_t length, const char *folder, const char *log_name)
+/* The last stripe was filled up with zeros: anything else is a log that goes on. */
+static void refuse_more_log(const job *j, const uint8_t *sources, size_t used)
+{
+    for (size_t i = used; i < j->stripe; i++) {
+        if (sources[i] != 0) {
+            refuse("the log goes on after LENGTH bytes in", j->folder);
+        }
+    }
+}
+
+static void rebuild_stripes(const job *j, uint64_t marks, FILE *const *cards, uint64_t length,
+                            const output *log)
+{
+    uint8_t sources[WH_MAX_K * WH_MAX_LENGTH];
+    for (uint64_t done = 0; done < length; done += j->stripe) {
+        size_t used = length - done < j->stripe ? (size_t)(length - done) : j->stripe;
+        rebuild_stripe(j, marks, cards, done, sources);
+        refuse_more_log(j, sources, used);
+        put(log, sources, used);
+    }
+}
+
+static void read_cards(const job *j, uint64_t length)
 {
     FILE *cards[CARDS_MOST] = {NULL};
-    uint64_t stripes = length / c->stripe + (length % c->stripe != 0);
-    uint64_t marks = open_cards(c, folder, stripes, cards);
-    read_stripes(c, marks, cards, length, log_name);
+    uint64_t stripes = length / j->stripe + (length % j->stripe != 0);
+    refuse_files_given_twice(j);
+    refuse_half_written(j);
+    uint64_t marks = open_cards(j, stripes, cards);
+    rebuild_stripes(j, marks, cards, length, begin_output(j->log));
+    finish_outputs();
     for (size_t i = 0; i < CARDS_MOST; i++) {
         if (cards[i] != NULL) {
             fclose(cards[i]);
@@ -224,15 +307,19 @@ static void read_cards(const code *c, uint64_t length, const char *folder, const
 
 int main(int words, char **word)
 {
+    atexit(remove_begun);
     if (words == 7 && strcmp(word[1], "write") == 0) {
-        code c = house_code(word + 2);
-        write_cards(&c, word[5], word[6]);
+        job j = new_job(word + 2, word[5], word[6]);
+        write_cards(&j);
     } else if (words == 8 && strcmp(word[1], "read") == 0) {
-        code c = house_code(word + 2);
-        read_cards(&c, number_in(word[5]), word[6], word[7]);
+        job j = new_job(word + 2, word[7], word[6]);
+        read_cards(&j, number_in(word[5]));
     } else {
         fputs(help, stderr);
         return 2;
+    }
+    if (fflush(stdout) != 0) {
+        fail("cannot write", "what was done");
     }
     return 0;
 }

@@ -1,9 +1,15 @@
-/* What the lab's programs share: bits and bytes on paper, and an end when a call refuses. */
+/* What the lab's programs share: bits and bytes on paper, numbers from the command line, and an end
+ * when a call refuses.
+ *
+ * The library's numbers are uint64_t. How printf wants them depends on the machine: "%lu" here,
+ * "%llu" on a 32-bit board, where "%lu" would print half of one and take the other half for what
+ * follows. <inttypes.h> knows: "%" PRIu64 is right on both. */
 #ifndef SHOW_H
 #define SHOW_H
 
 #include "windhawker.h"
 
+#include <errno.h>
 #include <inttypes.h>
 #include <stdio.h>
 #include <stdlib.h>
@@ -35,6 +41,20 @@ static inline void must(uint64_t number, const char *call)
         fprintf(stderr, "%s refused, %" PRIu64 ": %s\n", call, number, wh_meaning(number));
         exit(1);
     }
+}
+
+/* Reads a word that is a decimal number of at most this size, and nothing else. Says whether it
+ * was; if not, the number is as before. */
+static inline int read_number(const char *word, uint64_t most, uint64_t *number)
+{
+    char *end;
+    errno = 0;
+    unsigned long long value = strtoull(word, &end, 10);
+    if (*word < '0' || *word > '9' || *end != '\0' || errno != 0 || value > most) {
+        return 0;
+    }
+    *number = value;
+    return 1;
 }
 
 /* The numbers of the packets at hand, from their marks. */

@@ -58,17 +58,24 @@ static void expect_output(const call *asked, const question *q, const uint8_t *g
     }
 }
 
+/* The buffers are those of `held`; the library is told the lengths of `said`. */
+static void expect_lent(const call *asked, const question *held, lending way, const question *said,
+                        const answer *right, const uint8_t *right_output)
+{
+    lent at = lend(held, way);
+    answer got = asked->library(said, &at);
+    expect_answer(asked, said, &got, right);
+    expect_output(asked, held, at.output, right_output);
+    if (!inputs_kept(held, &at)) {
+        fail_at(asked, said, "an input has changed");
+    }
+}
+
 void expect(const call *asked, const question *q, const answer *right, const uint8_t *right_output)
 {
     static const lending ways[] = {FLUSH_AT_END, FLUSH_AT_START, NULL_IF_EMPTY};
     for (size_t i = 0; i < sizeof ways / sizeof ways[0]; i++) {
-        lent at = lend(q, ways[i]);
-        answer got = asked->library(q, &at);
-        expect_answer(asked, q, &got, right);
-        expect_output(asked, q, at.output, right_output);
-        if (!inputs_kept(q, &at)) {
-            fail_at(asked, q, "an input has changed");
-        }
+        expect_lent(asked, q, ways[i], q, right, right_output);
     }
 }
 
@@ -105,6 +112,69 @@ void compare_any_numbers(const call *asked, uint64_t questions)
                 compare(asked, &q);
             }
         }
+    }
+}
+
+/* A question that no check refuses. */
+static void draw_done(const call *asked, question *q)
+{
+    uint8_t output[BYTES_MOST];
+    do {
+        asked->draw(q);
+    } while (asked->model(q, output).number != WH_DONE);
+}
+
+/* The model is told the lengths of `meant`. */
+static void compare_lent(const call *asked, const question *held, const question *said,
+                         const question *meant)
+{
+    uint8_t right_output[BYTES_MOST];
+    memcpy(right_output, held->output.at, held->output.length);
+    answer right = asked->model(meant, right_output);
+    expect_lent(asked, held, NULL_IF_EMPTY, said, &right, right_output);
+}
+
+static question without_bytes_in(question q, unsigned choice)
+{
+    for (size_t buffer = 0; buffer < LENT_BUFFERS; buffer++) {
+        if (choice >> buffer & 1) {
+            lent_buffer(&q, buffer)->length = 0;
+        }
+    }
+    return q;
+}
+
+void compare_null(const call *asked, uint64_t questions)
+{
+    question said;
+    for (uint64_t i = 0; i < questions; i++) {
+        draw_done(asked, &said);
+        for (unsigned choice = 1; choice < 1u << LENT_BUFFERS; choice++) {
+            question held = without_bytes_in(said, choice);
+            compare_lent(asked, &held, &said, &held);
+        }
+    }
+}
+
+void compare_too_long(const call *asked, uint64_t questions)
+{
+    static const uint64_t lost_when_cut[] = {(uint64_t)1 << 32, (uint64_t)1 << 63,
+                                             UINT64_MAX - UINT32_MAX};
+    question held;
+    for (uint64_t i = 0; i < questions; i++) {
+        draw_done(asked, &held);
+        for (size_t place = 0; place < 3 * LENT_BUFFERS; place++) {
+            question said = held;
+            lent_buffer(&said, place / 3)->length += lost_when_cut[place % 3];
+            compare_lent(asked, &held, &said, &said);
+        }
+    }
+}
+
+void expect_number(uint64_t number, uint64_t right)
+{
+    if (number != right) {
+        fail("number %" PRIu64 ", not %" PRIu64, number, right);
     }
 }
 

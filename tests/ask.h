@@ -29,6 +29,17 @@ void compare_spoiled(const call *asked, uint64_t questions);
  * telling values, up to 2^64 - 1. */
 void compare_any_numbers(const call *asked, uint64_t questions);
 
+/* Compares at good questions with each choice of the buffers NULL, their lengths beside them all
+ * the same. The answer is that for buffers of no bytes. */
+void compare_null(const call *asked, uint64_t questions);
+
+/* Compares at good questions with one length after another said to be longer than the buffer, by
+ * what would be lost if a length were cut to 32 bits. */
+void compare_too_long(const call *asked, uint64_t questions);
+
+/* Fails unless the number is this one. */
+void expect_number(uint64_t number, uint64_t right);
+
 /* Fails unless all these slots are 0. */
 void expect_zeros(const uint64_t *slots, size_t count);
 

@@ -140,7 +140,7 @@ static void slot_is_set_when_refused(void)
     const uint8_t block[4] = {0, 0, 0xFF, 0};
     uint8_t dest[1] = {0};
     uint64_t length = 77;
-    whx_block(block, 4, dest, 1, &length);
+    expect_number(whx_block(block, 4, dest, 1, &length), WH_BLOCK_RESERVED);
     expect_zeros(&length, 1);
 }
 

@@ -26,9 +26,14 @@ keep() { # FILE
     awk 1 "$1" >>"$results"
 }
 
-# One that ends badly and says FAIL of nothing counts as a failed test.
+# One that ends badly and says FAIL of nothing counts as a failed test, and so does one that says
+# nothing at all.
 tell_end() { # NAME STATUS FILE
-    [ "$2" = 0 ] || grep -q '^FAIL ' "$3" || say "FAIL $1: ended with status $2"
+    if [ "$2" != 0 ]; then
+        grep -q '^FAIL ' "$3" || say "FAIL $1: ended with status $2"
+    else
+        grep -q -e '^ok ' -e '^FAIL ' "$3" || say "FAIL $1: said nothing"
+    fi
 }
 
 # Runs a script that says ok and FAIL itself: shows and keeps what it prints, and tells a bad end.

@@ -46,7 +46,7 @@ void draw_for_block(question *q);
 enum {
     PROGRESS_PLACE = 6,
     LENGTH_PLACE = PROGRESS_PLACE + WH_MAX_K,
-    BYTE_PLACE = LENGTH_PLACE + 4,
+    BYTE_PLACE = LENGTH_PLACE + LENT_BUFFERS,
     SPOILED_PLACES = BYTE_PLACE + 2,
     TELLING_VALUES = 26
 };

@@ -2,27 +2,22 @@
 #include "calls_table.h"
 #include "check.h"
 
-#include <inttypes.h>
-
-static void expect_number(question q, uint64_t number)
+static void expect_measured(question q, uint64_t number)
 {
     q.packet = q.k + 1;
-    answer measured = compare(&packet_length_call, &q);
-    if (measured.number != number) {
-        fail("number %" PRIu64 ", not %" PRIu64, measured.number, number);
-    }
+    expect_number(compare(&packet_length_call, &q).number, number);
 }
 
 static void one_more_is_refused(void)
 {
     question q = largest_question();
     q.table.at[0] = WH_MAX_SHIFT;
-    expect_number(q, WH_DONE);
+    expect_measured(q, WH_DONE);
     q.table.at[0] = WH_MAX_SHIFT + 1;
-    expect_number(q, WH_TABLE);
-    expect_number(house_question(WH_MAX_K, WH_MAX_M, WH_MAX_LENGTH + 1), WH_LENGTH);
-    expect_number(house_question(WH_MAX_K + 1, WH_MAX_M, 1), WH_SIZE);
-    expect_number(house_question(WH_MAX_K, WH_MAX_M + 1, 1), WH_SIZE);
+    expect_measured(q, WH_TABLE);
+    expect_measured(house_question(WH_MAX_K, WH_MAX_M, WH_MAX_LENGTH + 1), WH_LENGTH);
+    expect_measured(house_question(WH_MAX_K + 1, WH_MAX_M, 1), WH_SIZE);
+    expect_measured(house_question(WH_MAX_K, WH_MAX_M + 1, 1), WH_SIZE);
 }
 
 static void longest_packet_is_reached(void)

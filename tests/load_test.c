@@ -2,11 +2,7 @@
  *
  *   load_test           one round, for the gate
  *   load_test ROUNDS    so many rounds, each with other questions */
-#include "calls_block.h"
-#include "calls_encode.h"
-#include "calls_rebuild.h"
-#include "calls_table.h"
-#include "calls_walk.h"
+#include "calls.h"
 #include "check.h"
 #include "random.h"
 
@@ -17,19 +13,13 @@
 /* A question is asked three times, with its buffers lent in three ways. */
 enum { QUESTIONS = 7000, CALLS = 3 * QUESTIONS };
 
-static const call *const calls[] = {
-    &family_table_call, &judge_call,      &packet_length_call, &survivors_length_call,
-    &encode_all_call,   &encode_one_call, &walk_call,          &next_step_call,
-    &rebuild_call,      &repair_call,     &look_call,          &block_call,
-};
-
 static uint64_t row;
 
 static void ask_all(void)
 {
     random_restart(row);
     for (int i = 0; i < QUESTIONS; i++) {
-        compare_spoiled(calls[random_below(sizeof calls / sizeof calls[0])], 1);
+        compare_spoiled(calls[random_below(EVERY_CALL)], 1);
     }
 }
 

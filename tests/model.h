@@ -1,4 +1,4 @@
-/* What every call should answer, in plain C and straight from the rules, as slow as it likes.
+/* What every call should answer, in plain C and straight from docs/RULES.md, as slow as it likes.
  * Nothing of the library is used but the names of the limits and of the numbers, which pinned_test
  * holds to the rules. Sources, parities and packets are numbered from 1, as in the rules. A model
  * call writes its output only when it is done. */

@@ -1,5 +1,5 @@
-/* Document 01's limits and its list of numbers. Digits stand for them here and nowhere else: all
- * other files say their names, so a name that had another value would be found out here. */
+/* The limits and the list of numbers of docs/RULES.md. Digits stand for them here and nowhere else:
+ * all other files say their names, so a name that had another value would be found out here. */
 #include "check.h"
 #include "windhawker_limits.h"
 

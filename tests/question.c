@@ -1,5 +1,11 @@
 #include "question.h"
 
+bytes *lent_buffer(question *q, size_t buffer)
+{
+    bytes *buffers[LENT_BUFFERS] = {&q->table, &q->input, &q->rebuilt, &q->output};
+    return buffers[buffer];
+}
+
 answer numbered(uint64_t number, uint64_t result)
 {
     answer given = {0};

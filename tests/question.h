@@ -28,6 +28,10 @@ typedef struct {
     bytes output;  /* with its old bytes */
 } question;
 
+/* Its four buffers: the table, the input, the rebuilt sources, the output. */
+enum { LENT_BUFFERS = 4 };
+bytes *lent_buffer(question *q, size_t buffer);
+
 typedef struct {
     uint64_t number;
     uint64_t results[RESULTS_MOST]; /* as the call's struct has them after the number; rest 0 */

@@ -257,8 +257,10 @@ static void slots_are_set_when_refused(void)
     const uint8_t table[4] = {0, 1, 0, 2}, packets[4] = {3, 0, 5, 1};
     uint64_t slots[4] = {77, 77, 77, 77};
     uint8_t out[2];
-    whx_rebuild(2, 2, 1, table, 4, 12, packets, 4, out, 2, &slots[0]);
-    whx_look(2, 2, 1, table, 4, 12, 1, packets, 4, out, 1, &slots[1], &slots[2], &slots[3]);
+    expect_number(whx_rebuild(2, 2, 1, table, 4, 12, packets, 4, out, 2, &slots[0]), WH_FOREIGN);
+    expect_number(
+        whx_look(2, 2, 1, table, 4, 12, 1, packets, 4, out, 1, &slots[1], &slots[2], &slots[3]),
+        WH_INPUT);
     expect_zeros(slots, 4);
 }
 

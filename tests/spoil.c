@@ -13,8 +13,8 @@ static uint64_t *number_at(question *q, size_t place)
 
 static bytes *buffer_at(question *q, size_t place)
 {
-    bytes *buffers[] = {&q->table, &q->input, &q->rebuilt, &q->output};
-    return place >= LENGTH_PLACE && place < BYTE_PLACE ? buffers[place - LENGTH_PLACE] : NULL;
+    bool is_length = place >= LENGTH_PLACE && place < BYTE_PLACE;
+    return is_length ? lent_buffer(q, place - LENGTH_PLACE) : NULL;
 }
 
 /* Near what was there, at the limits, and what looks like the old number when bits are cut. */

@@ -148,9 +148,9 @@ static void slots_are_set_when_refused(void)
 {
     const uint8_t table[4] = {0, 1, 0, 2};
     uint64_t slots[3] = {77, 77, 77};
-    whx_judge(WH_MAX_K + 1, 2, table, 4, &slots[0]);
-    whx_packet_length(2, 2, 1, table, 4, 5, &slots[1]);
-    whx_survivors_length(2, 2, 1, table, 4, 7, &slots[2]);
+    expect_number(whx_judge(WH_MAX_K + 1, 2, table, 4, &slots[0]), WH_SIZE);
+    expect_number(whx_packet_length(2, 2, 1, table, 4, 5, &slots[1]), WH_PACKET);
+    expect_number(whx_survivors_length(2, 2, 1, table, 4, 7, &slots[2]), WH_MARKS);
     expect_zeros(slots, 3);
 }
 

@@ -190,10 +190,12 @@ static void slots_are_set_when_refused(void)
     const uint64_t progress[WH_MAX_K] = {9};
     uint64_t slots[RESULTS_MOST];
     memset(slots, 0x77, sizeof slots);
-    whx_walk(2, 2, 1, table, 4, 7, &slots[0], &slots[1], &slots[2]);
+    expect_number(whx_walk(2, 2, 1, table, 4, 7, &slots[0], &slots[1], &slots[2]), WH_MARKS);
     expect_zeros(slots, RESULTS_MOST);
     memset(slots, 0x77, sizeof slots);
-    whx_next_step(2, 2, 1, table, 4, 12, progress, &slots[0], &slots[1], &slots[2]);
+    expect_number(
+        whx_next_step(2, 2, 1, table, 4, 12, progress, &slots[0], &slots[1], &slots[2]),
+        WH_PROGRESS);
     expect_zeros(slots, RESULTS_MOST);
 }
 

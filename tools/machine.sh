@@ -28,7 +28,7 @@ install_packages() { # PACKAGES TOOLS...
 
 # What the tests and the demo need.
 install_compilers() {
-    install_packages "$compilers make" "${prefix}gcc" "${prefix}g++" "${prefix}nm" make
+    install_packages "$compilers make pkg-config" "${prefix}gcc" "${prefix}g++" "${prefix}nm" make pkg-config
 }
 
 # Runs a program that rt has proved and linked, as rt does: on the kit's own C library.

@@ -81,12 +81,14 @@ static void say_count(const char *name, const shape *s, uint64_t count)
 
 static void count_encode_all(const shape *s, size_t cells, size_t parity)
 {
+    uint64_t number = WH_DONE;
     uint32_t began = ticks();
     for (int i = 0; i < REPEATS; i++) {
-        wh_encode_all(s->k, s->m, s->l, table, cells, sources, (size_t)(s->k * s->l), parities,
-                      (size_t)s->m * parity);
+        number |= wh_encode_all(s->k, s->m, s->l, table, cells, sources, (size_t)(s->k * s->l),
+                                parities, (size_t)s->m * parity);
     }
-    say_count("encode_all", s, instructions_since(began) / REPEATS);
+    uint64_t count = instructions_since(began) / REPEATS;
+    say_count(number == WH_DONE ? "encode_all" : "refused", s, count);
 }
 
 /* As many sources lost as there are parities for. Those at hand stand before the parities. */
@@ -126,8 +128,12 @@ int main(void)
     for (int i = 0; i < 3; i++) {
         const shape *s = &shapes[i];
         size_t cells = (size_t)(s->k * s->m);
-        wh_family_table(s->k, s->m, table, cells);
+        uint64_t number = wh_family_table(s->k, s->m, table, cells);
         wh_measured parity = wh_packet_length(s->k, s->m, s->l, table, cells, s->k + 1);
+        if (number != WH_DONE || parity.number != WH_DONE) {
+            say_count("refused", s, number);
+            return 1;
+        }
         count_encode_all(s, cells, (size_t)parity.length);
         count_rebuild(s, cells, (size_t)parity.length);
     }

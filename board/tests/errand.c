@@ -80,13 +80,14 @@ static size_t gather(const errand *e, uint8_t *bytes)
 {
     size_t length = 0;
     for (int i = 0; i < BUFFERS; i++) {
-        if (e->words.lengths[i] > BUFFER_MOST) {
+        size_t sent = bytes_sent(e->words.lengths[i]);
+        if (sent > BUFFER_MOST) {
             fail("a buffer is too long to send");
         }
-        if (e->words.lengths[i] > 0) {
-            memcpy(bytes + length, e->inputs[i], (size_t)e->words.lengths[i]);
+        if (sent > 0) {
+            memcpy(bytes + length, e->inputs[i], sent);
         }
-        length += (size_t)e->words.lengths[i];
+        length += sent;
     }
     return length;
 }
@@ -106,7 +107,7 @@ answered_message run(const errand *e)
 {
     uint8_t message[sizeof e->words + BYTES_ASKED], back[BYTES_ANSWERED];
     uint8_t *sent = message + sizeof e->words;
-    size_t length = gather(e, sent), output_length = (size_t)e->words.lengths[OUTPUT];
+    size_t length = gather(e, sent), output_length = bytes_sent(e->words.lengths[OUTPUT]);
     answered_message answered;
     open_pipes();
     memcpy(message, &e->words, sizeof e->words);

@@ -6,6 +6,7 @@
 
 #include "windhawker_limits.h"
 
+#include <stddef.h>
 #include <stdint.h>
 
 enum { TABLE, INPUT, REBUILT, OUTPUT, BUFFERS };
@@ -34,6 +35,13 @@ typedef struct {
     uint64_t progress[WH_MAX_K];
     uint64_t lengths[BUFFERS];
 } asked_message;
+
+/* The bytes that are sent for a buffer of this length: what would be left of it in 32 bits. So a
+ * length that is cut on the board is one that fits. */
+static inline size_t bytes_sent(uint64_t length)
+{
+    return (size_t)(length & UINT32_MAX);
+}
 
 typedef struct {
     uint64_t number;

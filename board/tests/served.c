@@ -3,24 +3,35 @@
 #include "semihosting.h"
 #include "windhawker.h"
 
+#include <stdbool.h>
+
 enum { PAINTED = 3072, OWN_FRAME = 64, PAINT = 0x5A };
 
 static asked_message asked;
 static answered_message answered;
 static uint8_t room[BYTES_ANSWERED + 8];
 static uint8_t *buffers[BUFFERS];
-static size_t lengths[BUFFERS];
+static uint64_t lengths[BUFFERS];
 
-/* The buffers stand one after another, so at any address, between two margins. */
-static uint8_t *place_buffers(uint8_t *at)
+/* A length that is said of NULL, another one on each turn. It means nothing. */
+static uint64_t length_of_null(size_t turn)
+{
+    const uint64_t lengths_said[] = {0, asked.m * asked.k, asked.k * asked.l};
+    return lengths_said[turn % 3];
+}
+
+/* The buffers stand one after another, so at any address, between two margins. An empty one is
+ * NULL. */
+static uint8_t *place_buffers(uint8_t *at, size_t turn)
 {
     for (size_t i = 0; i < MARGIN; i++) {
         *at++ = MARGIN_BYTE;
     }
     for (int i = 0; i < BUFFERS; i++) {
-        lengths[i] = (size_t)asked.lengths[i];
-        buffers[i] = lengths[i] == 0 ? NULL : at;
-        at += lengths[i];
+        bool empty = asked.lengths[i] == 0;
+        lengths[i] = empty ? length_of_null(turn) : asked.lengths[i];
+        buffers[i] = empty ? NULL : at;
+        at += bytes_sent(asked.lengths[i]);
     }
     for (size_t i = 0; i < MARGIN; i++) {
         at[i] = MARGIN_BYTE;
@@ -153,7 +164,7 @@ int main(void)
     long from = open_to_read("asked"), to = open_to_write("answered");
     for (size_t turn = 0; read_all(from, &asked, sizeof asked); turn++) {
         uint8_t *start = room + turn % 8;
-        uint8_t *end = place_buffers(start);
+        uint8_t *end = place_buffers(start, turn);
         size_t length = (size_t)(end - start) - 2 * MARGIN;
         if (!read_all(from, start + MARGIN, length)) {
             return 5;

@@ -2,7 +2,7 @@
  *
  * The logbook has four sources of eight bytes and two parities. Cards 1 and 4 are lost. The reader
  * hands over each card's packet as one T=1 block; the one from card 3 came damaged at first. */
-#include "semihosting.h"
+#include "say.h"
 #include "windhawker.h"
 
 enum { K = 4, M = 2, L = 8 };
@@ -26,6 +26,18 @@ static const received_block received[] = {
 static uint8_t packets[K * WH_LONGEST];
 static size_t packets_length;
 static uint64_t marks;
+
+/* Every call gives a number. Where only WH_DONE will do, this ends the program on any other. */
+static void must(uint64_t number, const char *call)
+{
+    if (number != WH_DONE) {
+        say(call);
+        say(" refused: ");
+        say(wh_meaning(number));
+        say("\n");
+        leave(1);
+    }
+}
 
 /* Takes a block's packet behind those that are there; a refused block leaves no trace. */
 static void take(const received_block *block)
@@ -52,15 +64,14 @@ int main(void)
     for (size_t i = 0; i < sizeof received / sizeof received[0]; i++) {
         take(&received[i]);
     }
-    wh_family_table(K, M, table, sizeof table);
+    must(wh_family_table(K, M, table, sizeof table), "wh_family_table");
     wh_rebuilt rebuilt = wh_rebuild(K, M, L, table, sizeof table, marks, packets, packets_length,
                                     (uint8_t *)logbook, K * L);
-    say("rebuild: ");
-    say(wh_meaning(rebuilt.number));
-    say(", steps ");
+    must(rebuilt.number, "wh_rebuild");
+    say("rebuild: done, steps ");
     say_number(rebuilt.count);
     say("\n");
     say(logbook);
     say("\n");
-    return rebuilt.number == WH_DONE ? 0 : 1;
+    return 0;
 }

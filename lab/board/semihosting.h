@@ -2,12 +2,7 @@
 #ifndef SEMIHOSTING_H
 #define SEMIHOSTING_H
 
-#include <stddef.h>
-#include <stdint.h>
-
-void say(const char *words);
-void say_number(uint64_t number);
-void say_bytes(const uint8_t *bytes, size_t length); /* in hex, a space before each */
+#include "say.h"
 
 /* Files beside the debugger. Opening gives a handle, or -1; reading and writing say whether all
  * went through. */
@@ -15,8 +10,5 @@ long open_to_read(const char *name);
 long open_to_write(const char *name);
 int read_all(long handle, void *to, size_t length);
 int write_all(long handle, const void *from, size_t length);
-
-/* Ends the program with this status. */
-void leave(int status) __attribute__((noreturn));
 
 #endif

@@ -1,5 +1,5 @@
-/* The class sheet of the line on standard input, in plain C and straight from the rules: what the
- * program class_sheet should print. Counts come from the model's walk. */
+/* The class sheet of the line on standard input, in plain C and straight from docs/RULES.md: what
+ * the program class_sheet should print. Counts come from the model's walk. */
 #include "../model.h"
 
 #include <stdio.h>

@@ -1,4 +1,4 @@
--- The blocks of document 01: each given answer meets the promise. Checked by computing. Assumes nothing.
+-- The blocks among the examples of the rules (docs/RULES.md): each given answer meets the promise. Checked by computing. Assumes nothing.
 use mathlib.Core.Path.{refl}
 use mathlib.Core.Logic.{inl, inr}
 use mathlib.Core.List.{List, [], _∷_}

@@ -1,4 +1,4 @@
--- The starred examples of document 01 and some more, each on a line and by name: a call, its input and its answer. proofs/Examples proves that every answer meets its call's promise.
+-- The starred examples of the rules (docs/RULES.md) and some more, each on a line and by name: a call, its input and its answer. proofs/Examples proves that every answer meets its call's promise.
 use mathlib.Core.Path.{_≡_}
 use mathlib.Core.List.{List, [], _∷_}
 use Prim.Native.Nat.{ℕ}

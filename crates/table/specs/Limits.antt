@@ -1,4 +1,4 @@
--- The limits of document 01. `Table::limits` ties them to the constants of the code.
+-- The limits of the rules (docs/RULES.md). `Table::limits` ties them to the constants of the code.
 use mathlib.Core.Path.{_≡_}
 use mathlib.Core.List.{List}
 use Prim.Native.Nat.{ℕ, _+_, _*_}
