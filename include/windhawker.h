@@ -10,7 +10,7 @@
  *
  * THE SHIFT TABLE
  *   m rows of k entries, row by row, one byte each, 0 to 64. Entry (a, b) says how many bits
- *   source b is shifted up before it is added (XOR) into parity a. Its largest entry is called r.
+ *   source b is shifted up before it is added (XOR) into parity a. The table's largest entry is r.
  *   wh_family_table makes the house table, with which any k packets work.
  *
  * BITS
@@ -82,15 +82,15 @@
  *   passed: nothing is cut to fewer bits on its way in, and lengths have 64 bits on every board.
  *   NULL is a buffer of length 0, whatever length stands beside it, and is refused as that: with
  *   WH_TABLE, WH_INPUT, WH_OUTPUT or WH_BLOCK_SHORT. Length 0 is right in one place only, the
- *   destination of a block whose LEN is 0; for any other block it is WH_ROOM. Progress is not
+ *   destination of a block whose LEN is 0; for any other good block it is WH_ROOM. Progress is not
  *   NULL: it is always an array of WH_MAX_K numbers.
  *
  * WARNINGS
- *   With -Wall, gcc and clang warn where a call's number or struct is not looked at at all, and where
- *   progress is NULL. gcc, from 10 on, also warns where a buffer is shorter than the length beside
- *   it, or is NULL with a length, as far as it knows both. It takes sources[0] of an array of arrays
- *   for one of them: lend the whole as (uint8_t *)sources. A struct of which only the other members
- *   are read passes: look at its number first.
+ *   With -Wall, gcc and clang warn where a call's number or struct is not looked at at all, and
+ *   where progress is NULL. gcc, from 10 on, also warns where a buffer is shorter than the length
+ *   beside it, or is NULL with a length, as far as it knows both. It takes sources[0] of an array of
+ *   arrays for one of them: lend the whole as (uint8_t *)sources. A struct of which only the other
+ *   members are read passes: look at its number first.
  */
 #ifndef WINDHAWKER_H
 #define WINDHAWKER_H

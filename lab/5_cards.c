@@ -14,10 +14,13 @@ static const char help[] =
     "The last stripe is filled up with zero bytes, and LENGTH, the bytes of the log, says where\n"
     "the log ends.\n"
     "\n"
-    "read looks which card files are there and writes LOG from the first K of them. A card file\n"
-    "that is not as long as LENGTH wants it counts as lost. K, M, L and LENGTH stand on no card:\n"
-    "note them down. read refuses what it can tell is wrong, but with other numbers than those of\n"
-    "the write, and nothing but sources at hand, a wrong log can come out.\n"
+    "read looks which card files are there, writes LOG from the first K of them and compares the\n"
+    "others with it. A card file that is not as long as LENGTH wants it counts as lost; where no\n"
+    "parity that is there has its length, read refuses.\n"
+    "\n"
+    "K, M, L and LENGTH stand on no card: note them down. read refuses what it can tell is wrong.\n"
+    "It cannot tell everything: a LENGTH too large by less than a stripe gives zero bytes behind\n"
+    "the log, and with just K cards of other numbers or of two logs a wrong log can come out.\n"
     "\n"
     "K and M are 1 to " WH_TEXT(WH_MAX_K) ", L is 1 to " WH_TEXT(WH_MAX_LENGTH) ".\n";
 
@@ -58,6 +61,9 @@ static job new_job(char **word, const char *log, const char *folder)
     j.stripe = (size_t)j.k * packet_length(&j, 1);
     j.log = log;
     j.folder = folder;
+    if (folder[0] == '\0') {
+        refuse("the name of a folder is empty:", "CARDS_DIR");
+    }
     return j;
 }
 
@@ -182,7 +188,7 @@ static FILE *open_card(const job *j, uint64_t packet, uint64_t stripes, unsigned
     if (length / each != stripes || length % each != 0) {
         fprintf(stderr,
                 "cards: %s has a wrong length and counts as lost: %" PRIu64 " bytes, not %" PRIu64
-                " packets of %" PRIu64 "\n",
+                " times %" PRIu64 "\n",
                 name, length, stripes, each);
         (*wrong_lengths)++;
         return NULL;
@@ -191,33 +197,42 @@ static FILE *open_card(const job *j, uint64_t packet, uint64_t stripes, unsigned
     return card != NULL ? card : count_as_lost(name, strerror(errno));
 }
 
-/* Opens the first k cards that are there, and gives their marks. The others are looked at too: the
- * lengths of sources do not tell L from half of L, those of parities do. */
+/* More than K + M cards are a sign of a wrong K or M, or of an older write of more cards. */
+static void refuse_more_cards(const job *j)
+{
+    char card[NAME_MOST];
+    struct stat found;
+    for (uint64_t packet = j->k + j->m + 1; packet <= CARDS_MOST; packet++) {
+        name_card(card, j, packet);
+        if (stat(card, &found) == 0) {
+            refuse("K or M is wrong, or this is of another log and to be removed:", card);
+        }
+    }
+}
+
+/* Opens all cards that are there, and gives the marks of the first k. The lengths of sources do not
+ * tell L from half of L, those of parities do: where parities are, one must have its length. */
 static uint64_t open_cards(const job *j, uint64_t stripes, FILE **cards)
 {
     uint64_t marks = 0, found = 0, parities = 0;
     unsigned wrong_sources = 0, wrong_parities = 0;
     for (uint64_t packet = 1; packet <= j->k + j->m; packet++) {
-        FILE *card =
+        cards[packet - 1] =
             open_card(j, packet, stripes, packet <= j->k ? &wrong_sources : &wrong_parities);
-        parities += card != NULL && packet > j->k;
-        if (card != NULL && found < j->k) {
-            cards[packet - 1] = card;
-            marks |= (uint64_t)1 << (packet - 1);
+        if (cards[packet - 1] != NULL) {
+            marks |= (uint64_t)(found < j->k) << (packet - 1);
             found++;
-        } else if (card != NULL) {
-            fclose(card);
+            parities += packet > j->k;
         }
     }
-    int doubtful = parities == 0 && wrong_parities > 0;
-    if (doubtful || (found < j->k && wrong_sources + wrong_parities > 0)) {
+    if (wrong_sources + wrong_parities > 0) {
         fputs("cards: perhaps K, M, L or LENGTH is not what these were written with\n", stderr);
     }
     if (found < j->k) {
         refuse("fewer than K cards in", j->folder);
     }
-    if (doubtful) {
-        refuse("no parity has its length in", j->folder);
+    if (parities == 0 && wrong_parities > 0) {
+        refuse("no parity has its length (remove them if they are broken) in", j->folder);
     }
     return marks;
 }
@@ -264,6 +279,26 @@ static void rebuild_stripe(const job *j, uint64_t marks, FILE *const *cards, uin
     }
 }
 
+/* The cards that were not needed must be what these sources encode to. */
+static void compare_other_cards(const job *j, uint64_t marks, FILE *const *cards,
+                                const uint8_t *sources)
+{
+    uint8_t wanted[WH_LONGEST], found[WH_LONGEST];
+    for (uint64_t packet = 1; packet <= j->k + j->m; packet++) {
+        if (cards[packet - 1] == NULL || marks >> (packet - 1) & 1) {
+            continue;
+        }
+        size_t length = packet_length(j, packet);
+        read_packet(j, packet, cards[packet - 1], found, length);
+        must(wh_encode_one(j->k, j->m, j->l, j->table, j->table_len, packet, sources, j->stripe,
+                           wanted, length),
+             "cards:");
+        if (memcmp(found, wanted, length) != 0) {
+            refuse("a card is bad or of another log, or K, M or L is wrong, in", j->folder);
+        }
+    }
+}
+
 /* The last stripe was filled up with zeros: anything else is a log that goes on. */
 static void refuse_more_log(const job *j, const uint8_t *sources, size_t used)
 {
@@ -281,8 +316,12 @@ static void rebuild_stripes(const job *j, uint64_t marks, FILE *const *cards, ui
     for (uint64_t done = 0; done < length; done += j->stripe) {
         size_t used = length - done < j->stripe ? (size_t)(length - done) : j->stripe;
         rebuild_stripe(j, marks, cards, done, sources);
+        compare_other_cards(j, marks, cards, sources);
         refuse_more_log(j, sources, used);
         put(log, sources, used);
+        if (length - done == used && sources[used - 1] == 0) {
+            fputs("cards: the log ends with a zero byte: is LENGTH what write said?\n", stderr);
+        }
     }
 }
 
@@ -292,6 +331,7 @@ static void read_cards(const job *j, uint64_t length)
     uint64_t stripes = length / j->stripe + (length % j->stripe != 0);
     refuse_files_given_twice(j);
     refuse_half_written(j);
+    refuse_more_cards(j);
     uint64_t marks = open_cards(j, stripes, cards);
     rebuild_stripes(j, marks, cards, length, begin_output(j->log));
     finish_outputs();
@@ -319,7 +359,7 @@ int main(int words, char **word)
         return 2;
     }
     if (fflush(stdout) != 0) {
-        fail("cannot write", "what was done");
+        fail("the files are written, but not", "what was done");
     }
     return 0;
 }

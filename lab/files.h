@@ -1,6 +1,6 @@
-/* Files that a program may not spoil, whatever happens: what lesson 5 knows about them. An output is
- * written beside its name, as NAME.new, and gets its name when all outputs are complete. Until then
- * the file that has the name is as it was, byte for byte. */
+/* Files that a program may not spoil, whatever happens: what lesson 5 knows about them. An output
+ * is written beside its name, as NAME.new, and gets its name when all outputs are complete. Until
+ * then the file that has the name is as it was, byte for byte. */
 #ifndef FILES_H
 #define FILES_H
 
@@ -75,11 +75,13 @@ typedef struct {
 static output outputs[OUTPUTS_MOST];
 static size_t begun; /* how many of them stand beside their names */
 
-/* Runs whenever the program ends: outputs that have not got their names are removed. */
+/* Runs when the program ends by itself: outputs that have not got their names are removed, the
+ * first one last. A signal, such as Ctrl-C sends, leaves them, and the next call says so. */
 static inline void remove_begun(void)
 {
-    for (size_t i = 0; i < begun; i++) {
-        remove(outputs[i].beside);
+    while (begun > 0) {
+        begun--;
+        remove(outputs[begun].beside);
     }
 }
 
@@ -108,7 +110,7 @@ static inline FILE *make_beside(const char *beside, mode_t rights)
 {
     FILE *file = fopen(beside, "wbx"); /* x: refused when a file has this name */
     if (file == NULL && errno == EEXIST) {
-        refuse("left by a write that was broken off? Look at it and remove it:", beside);
+        refuse("left by a write that was broken off? docs/LAB.md says what to do with", beside);
     }
     if (file == NULL || fchmod(fileno(file), rights) != 0) {
         fail("cannot make", beside);

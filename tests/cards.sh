@@ -175,7 +175,7 @@ half_written_cards_are_not_read() {
 unsaid_length_is_told() {
     write_sample || return
     lab cards write 4 2 40 "$room/sample/log" "$room/sample" 2>"$room/said" >/dev/full && return 1
-    grep -q 'cannot write what was done: ' "$room/said"
+    grep -q 'the files are written, but not what was done: ' "$room/said"
 }
 
 write_from() { # LOG [FOLDER]
@@ -261,7 +261,9 @@ read_into_a_bad_log() {
 # K M L LENGTH that the cards were not written with; LENGTH beyond all that the cards hold.
 read_with_wrong_numbers() {
     write_sample || return
-    for numbers in '3 2 40 500' '4 2 39 500' '4 2 40 641' '4 2 40 480' '4 2 40 0' '5 2 40 500' \
+    refused 'K or M is wrong, or this is of another log and to be removed: .*/card_6' \
+        cards read 3 2 40 500 "$room/sample" "$room/sample/log" || return
+    for numbers in '4 2 39 500' '4 2 40 641' '4 2 40 480' '4 2 40 0' '5 2 40 500' \
         '4 2 40 18446744073709551615' '8 8 1 18446744073709551615'; do
         # shellcheck disable=SC2086
         refused 'perhaps K, M, L or LENGTH is not what' \
@@ -283,9 +285,39 @@ read_with_numbers_that_nearly_fit() {
     done
     random_log 9 640 >"$room/sample/log"
     write_from log || return
-    refused 'no parity has its length in' \
+    refused 'no parity has its length (remove them if they are broken) in' \
         cards read 4 2 20 640 "$room/sample" "$room/sample/log" || return
     echo "$said" | grep -q 'perhaps K, M, L or LENGTH is not what'
+}
+
+# As many cards fit as are wanted, and the others tell: K and M exchanged, a card of another log, a card
+# of an older write of more cards.
+read_with_other_cards_that_differ() {
+    write_sample || return
+    random_log 9 133 >"$room/sample/log"
+    rm "$room"/sample/card_*
+    cards write 3 2 40 "$room/sample/log" "$room/sample" || return
+    mv "$room/sample/card_3" "$room/sample/third"
+    differ='a card is bad or of another log, or K, M or L is wrong, in'
+    refused "$differ" cards read 2 3 40 133 "$room/sample" "$room/sample/log" || return
+    mv "$room/sample/third" "$room/sample/card_3"
+    mkdir "$room/sample/other"
+    random_log 10 133 >"$room/sample/other/log"
+    cards write 3 2 40 "$room/sample/other/log" "$room/sample/other" || return
+    cp "$room/sample/other/card_2" "$room/sample/card_2"
+    refused "$differ" cards read 3 2 40 133 "$room/sample" "$room/sample/log" || return
+    : >"$room/sample/card_16"
+    refused 'K or M is wrong, .*/card_16' cards read 3 2 40 133 "$room/sample" "$room/sample/log"
+}
+
+# Zeros behind the log, which may be its own, are told; no folder is not the root.
+doubtful_end_is_told() {
+    write_sample || return
+    said=$(cards read 4 2 40 501 "$room/sample" "$room/sample/back") || { echo "$said"; return 1; }
+    echo "$said" | grep -q 'the log ends with a zero byte: is LENGTH what write said?' || return
+    said=$(read_sample) || { echo "$said"; return 1; }
+    ! echo "$said" | grep 'zero byte' || return
+    refused 'the name of a folder is empty: CARDS_DIR' cards write 4 2 40 "$room/missing" ''
 }
 
 # A length whose packets together are 0 bytes when their sum is cut to 64 bits.
