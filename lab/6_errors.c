@@ -58,7 +58,7 @@ static unsigned count_marks(uint64_t marks, uint64_t first, uint64_t last)
     return count;
 }
 
-/* The first k of the cards at hand, which `cards read` takes. */
+/* The first k of the cards at hand, from which `cards read` writes the log. */
 static uint64_t first_cards(uint64_t marks)
 {
     for (uint64_t packet = N; count_marks(marks, 1, N) > K; packet--) {

@@ -23,7 +23,8 @@ pub fn add_row(
     requires { ⌜ a < s .m ⌝ }
     requires { ⌜ sourcesBytes (deskOf s (now shifts)) ≤ length (now sources) ⌝ }
     requires { ⌜ 8 * start + packetBits (deskOf s (now shifts)) (s .k + a) ≤ 8 * length (now dst) ⌝ }
-    ensures { λ _. ⌜ ((p : ℕ) → bitAt (now (dst .exit)) p ≡ (bitAt (now (dst .entry)) p + up (8 * start) (sumOf (deskOf s (now (shifts .entry))) (sourcesOf (deskOf s (now (shifts .entry))) (now (sources .entry))) a) p) % 2) ⌝ }
+    ensures { λ _. ⌜ ((p : ℕ) → bitAt (now (dst .exit)) p
+        ≡ (bitAt (now (dst .entry)) p + up (8 * start) (sumOf (deskOf s (now (shifts .entry))) (sourcesOf (deskOf s (now (shifts .entry))) (now (sources .entry))) a) p) % 2) ⌝ }
 {
     let bytes = table::source_bytes(s);
     let mut b = 0;

@@ -92,7 +92,8 @@ fn take_out(s: Shape, shifts: &[u8; Table::CELLS], b: usize, sources: &[u8], res
     requires { ⌜ Ready s (now shifts) ⌝ }
     requires { ⌜ b < s .k ⌝ }
     requires { ⌜ sourcesBytes (deskOf s (now shifts)) ≤ length (now sources) ⌝ }
-    ensures { λ _. ⌜ AddedToRows (deskOf s (now (shifts .entry))) (inRow (deskOf s (now (shifts .entry))) (sourcesOf (deskOf s (now (shifts .entry))) (now (sources .entry))) b) (now (rests .entry)) (now (rests .exit)) ⌝ }
+    ensures { λ _. ⌜ AddedToRows (deskOf s (now (shifts .entry))) (inRow (deskOf s (now (shifts .entry))) (sourcesOf (deskOf s (now (shifts .entry))) (now (sources .entry))) b)
+        (now (rests .entry)) (now (rests .exit)) ⌝ }
 {
     let bytes = table::source_bytes(s);
     let from = b * bytes;
@@ -120,7 +121,9 @@ fn take_missing(
     requires { ⌜ Ready s (now shifts) ⌝ }
     requires { ⌜ AllMissing s (now columns) count ⌝ }
     requires { ⌜ sourcesBytes (deskOf s (now shifts)) ≤ length (now sources) ⌝ }
-    ensures { λ _. ⌜ AddedToRows (deskOf s (now (shifts .entry))) (sumOf (deskOf s (now (shifts .entry))) (missingOf (deskOf s (now (shifts .entry))) (sourcesOf (deskOf s (now (shifts .entry))) (now (sources .entry))))) (now (rests .entry)) (now (rests .exit)) ⌝ }
+    ensures { λ _. ⌜ AddedToRows (deskOf s (now (shifts .entry)))
+        (sumOf (deskOf s (now (shifts .entry))) (missingOf (deskOf s (now (shifts .entry))) (sourcesOf (deskOf s (now (shifts .entry))) (now (sources .entry)))))
+        (now (rests .entry)) (now (rests .exit)) ⌝ }
 {
     let n = count as usize;
     let mut j = 0;

@@ -28,7 +28,8 @@ pub fn recover(
     requires { ⌜ Ready s (now shifts) ⌝ }
     requires { ⌜ Survivors s (now shifts) (now packets) ⌝ }
     requires { ⌜ Noughts (now sources) ⌝ }
-    ensures { λ r. ⌜ Recovered (deskOf s (now (shifts .entry))) (now (packets .entry)) (r .number) (r .count) (take (sourcesBytes (deskOf s (now (shifts .entry)))) (now (sources .exit))) × (length (now (sources .exit)) ≡ allSources) ⌝ }
+    ensures { λ r. ⌜ Recovered (deskOf s (now (shifts .entry))) (now (packets .entry)) (r .number) (r .count) (take (sourcesBytes (deskOf s (now (shifts .entry)))) (now (sources .exit)))
+        × (length (now (sources .exit)) ≡ allSources) ⌝ }
 {
     let d = decode::read_back(s, shifts, packets, sources);
     if !d.whole {

@@ -30,7 +30,8 @@ fn place(
     requires { ⌜ i < s .k + s .m ⌝ }
     requires { ⌜ from + packetBytes (deskOf s (now shifts)) i ≤ length (now packets) ⌝ }
     ensures { λ r. ⌜ r ≡ from + packetBytes (deskOf s (now (shifts .entry))) i ⌝ }
-    ensures { λ r. ⌜ PacketAdded (deskOf s (now (shifts .entry))) i (bitAt (slice (now (packets .entry)) from (packetBytes (deskOf s (now (shifts .entry))) i))) (now (sources .entry)) (now (rests .entry)) (now (sources .exit)) (now (rests .exit)) ⌝ }
+    ensures { λ r. ⌜ PacketAdded (deskOf s (now (shifts .entry))) i (bitAt (slice (now (packets .entry)) from (packetBytes (deskOf s (now (shifts .entry))) i)))
+        (now (sources .entry)) (now (rests .entry)) (now (sources .exit)) (now (rests .exit)) ⌝ }
 {
     let end = from + table::packets::packet_bytes(s, shifts, i);
     let k = s.k;
@@ -69,7 +70,8 @@ pub fn place_packets(
 pub fn add_to_rows(s: Shape, shifts: &[u8; Table::CELLS], sources: &[u8], rests: &mut [u8; ROWS])
     requires { ⌜ Ready s (now shifts) ⌝ }
     requires { ⌜ sourcesBytes (deskOf s (now shifts)) ≤ length (now sources) ⌝ }
-    ensures { λ _. ⌜ AddedToRows (deskOf s (now (shifts .entry))) (sumOf (deskOf s (now (shifts .entry))) (sourcesOf (deskOf s (now (shifts .entry))) (now (sources .entry)))) (now (rests .entry)) (now (rests .exit)) ⌝ }
+    ensures { λ _. ⌜ AddedToRows (deskOf s (now (shifts .entry))) (sumOf (deskOf s (now (shifts .entry))) (sourcesOf (deskOf s (now (shifts .entry))) (now (sources .entry))))
+        (now (rests .entry)) (now (rests .exit)) ⌝ }
 {
     let k = s.k;
     let n = k + s.m;
