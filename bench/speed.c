@@ -148,7 +148,7 @@ static job make_job(unsigned k, unsigned m)
 {
     job j = {.k = k, .m = m, .lost = 1};
     uint64_t state = 1;
-    uint64_t number = wh_family_table(k, m, j.table, m * k);
+    uint64_t number = wh_family_table(k, m, WH_HOUSE, j.table, m * k);
     wh_measured parity = wh_packet_length(k, m, LENGTH, j.table, m * k, k + 1);
     if (number != WH_DONE || parity.number != WH_DONE) {
         printf("there is no house table for k %u, m %u\n", k, m);

@@ -11,7 +11,13 @@
  * THE SHIFT TABLE
  *   m rows of k entries, row by row, one byte each, 0 to 64. Entry (a, b) says how many bits
  *   source b is shifted up before it is added (XOR) into parity a. The table's largest entry is r.
- *   wh_family_table makes the house table, with which any k packets work.
+ *   wh_family_table makes tables with which any k packets work. There are three families of them.
+ *   A smaller r is less room lost at the top of each parity:
+ *      WH_HOUSE        1: r is m * (k - 1)
+ *      WH_HANKEL       2: r is h * (h - 1) / 2, where h is n / 2 rounded down
+ *      WH_VANDERMONDE  3: r is (m - 1) * (k - 1)
+ *   With k = m = 8 that is 56, 28 and 49. None is best for all k and m: with k = 2 and m = 8 they
+ *   have 8, 10 and 7. The lab uses WH_HOUSE unless it is told otherwise.
  *
  * BITS
  *   Bit p of a packet is bit p % 8 of byte p / 8, lowest bit first. Parity a is the XOR, over all
@@ -41,6 +47,7 @@
  *   Anything else means refused, and is the first of these, in this order, that holds (a call makes
  *   the checks that it has the input for):
  *      1  WH_SIZE            k or m is outside 1 to 8
+ *     19  WH_FAMILY          the family is outside 1 to 3
  *      2  WH_LENGTH          l is outside 1 to 56
  *      3  WH_TABLE           the table is not m * k bytes long, or an entry is above 64
  *      6  WH_PACKET          a packet number is outside 1 to n, a source number outside 1 to k,
@@ -100,9 +107,9 @@
 
 #include "windhawker_limits.h"
 
-#define WH_VERSION "0.1.0"
+#define WH_VERSION "0.2.0"
 #define WH_VERSION_MAJOR 0
-#define WH_VERSION_MINOR 1
+#define WH_VERSION_MINOR 2
 
 /* What a compiler is told about the calls; one that does not know the words is told nothing.
  * WH_LOOK_AT_IT: the answer is looked at. WH_READS(3, 4): parameter 3 is a buffer that is read, of
@@ -151,39 +158,32 @@ extern "C" {
 /* What a number means, in a few words. */
 static inline const char *wh_meaning(uint64_t number)
 {
-    static const struct {
-        uint64_t number;
-        const char *meaning;
-    } list[] = {
-        {WH_DONE, "done"},
-        {WH_SIZE, "k or m is outside 1 to " WH_TEXT(WH_MAX_K)},
-        {WH_LENGTH, "the source length is outside 1 to " WH_TEXT(WH_MAX_LENGTH)},
-        {WH_TABLE, "the table has a wrong length or an entry above " WH_TEXT(WH_MAX_SHIFT)},
-        {WH_INPUT, "an input buffer has not the exact length: sources take k * l bytes, packets "
-                   "at hand take wh_survivors_length"},
-        {WH_OUTPUT, "an output buffer has not the exact length: a table takes m * k bytes, sources "
-                    "k * l, a packet wh_packet_length, all parities m times that"},
-        {WH_PACKET, "no such packet, source or mark: packets are 1 to k + m, sources 1 to k, "
-                    "marks the lowest k + m bits"},
-        {WH_MARKS, "the marks are not exactly k"},
-        {WH_STALL, "the decoding stalls"},
-        {WH_STRAY, "a parity has a one above its last bit"},
-        {WH_FOREIGN, "no sources encode to these packets"},
-        {WH_BLOCK_SHORT, "the block has fewer than 4 bytes"},
-        {WH_BLOCK_RESERVED, "the block's length byte is 255"},
-        {WH_BLOCK_LENGTH, "the block is not as long as its length byte says"},
-        {WH_BLOCK_SUM, "the block's bytes do not XOR to 0"},
-        {WH_BLOCK_HEADER, "the block's first two bytes are not those of a lone block"},
-        {WH_ROOM, "the block does not fit into the destination"},
-        {WH_PROGRESS, "progress that no source can have"},
-        {WH_LINE, "the input is not one line `k m L`"},
-    };
-    for (size_t i = 0; i < sizeof list / sizeof list[0]; i++) {
-        if (list[i].number == number) {
-            return list[i].meaning;
-        }
+    switch (number) {
+    case WH_DONE: return "done";
+    case WH_SIZE: return "k or m is outside 1 to " WH_TEXT(WH_MAX_K);
+    case WH_LENGTH: return "the source length is outside 1 to " WH_TEXT(WH_MAX_LENGTH);
+    case WH_TABLE: return "the table has a wrong length or an entry above " WH_TEXT(WH_MAX_SHIFT);
+    case WH_INPUT: return "an input buffer has not the exact length: sources take k * l bytes, "
+                          "packets at hand take wh_survivors_length";
+    case WH_OUTPUT: return "an output buffer has not the exact length: a table takes m * k bytes, "
+                           "sources k * l, a packet wh_packet_length, all parities m times that";
+    case WH_PACKET: return "no such packet, source or mark: packets are 1 to k + m, "
+                           "sources 1 to k, marks the lowest k + m bits";
+    case WH_MARKS: return "the marks are not exactly k";
+    case WH_STALL: return "the decoding stalls";
+    case WH_STRAY: return "a parity has a one above its last bit";
+    case WH_FOREIGN: return "no sources encode to these packets";
+    case WH_BLOCK_SHORT: return "the block has fewer than 4 bytes";
+    case WH_BLOCK_RESERVED: return "the block's length byte is 255";
+    case WH_BLOCK_LENGTH: return "the block is not as long as its length byte says";
+    case WH_BLOCK_SUM: return "the block's bytes do not XOR to 0";
+    case WH_BLOCK_HEADER: return "the block's first two bytes are not those of a lone block";
+    case WH_ROOM: return "the block does not fit into the destination";
+    case WH_PROGRESS: return "progress that no source can have";
+    case WH_LINE: return "the input is not one line `k m L`";
+    case WH_FAMILY: return "the family is outside 1 to " WH_TEXT(WH_FAMILIES);
+    default: return "no number of the list";
     }
-    return "no number of the list";
 }
 
 /* The library wants a place even for no bytes, so NULL becomes the place of one. */
@@ -217,7 +217,7 @@ typedef struct {
 } wh_measured;
 
 WH_LOOK_AT_IT
-uint64_t whx_family_table(uint64_t k, uint64_t m, uint8_t *out, uint64_t out_len);
+uint64_t whx_family_table(uint64_t k, uint64_t m, uint64_t family, uint8_t *out, uint64_t out_len);
 WH_LOOK_AT_IT
 uint64_t whx_judge(uint64_t k, uint64_t m, const uint8_t *table, uint64_t table_len,
                    uint64_t *growing);
@@ -228,11 +228,15 @@ WH_LOOK_AT_IT
 uint64_t whx_survivors_length(uint64_t k, uint64_t m, uint64_t l, const uint8_t *table,
                               uint64_t table_len, uint64_t marks, uint64_t *length);
 
-/* Writes the house table, m * k bytes: entry (a, b) is a * (b - 1). Checks 1 5. */
-WH_LOOK_AT_IT WH_WRITES(3, 4)
-static inline uint64_t wh_family_table(uint64_t k, uint64_t m, uint8_t *out, uint64_t out_len)
+/* Writes the table of a family, m * k bytes. Entry (a, b) is a * (b - 1) for WH_HOUSE and
+ * (a - 1) * (b - 1) for WH_VANDERMONDE. For WH_HANKEL, with m at least k, it is t * (t + 1) / 2,
+ * where t is d + a - m + b - 1, which may be below 0, and d is (m - k) / 2 rounded down; with m
+ * below k it is entry (b, a) of the table for k and m exchanged. Checks 1 19 5. */
+WH_LOOK_AT_IT WH_WRITES(4, 5)
+static inline uint64_t wh_family_table(uint64_t k, uint64_t m, uint64_t family, uint8_t *out,
+                                       uint64_t out_len)
 {
-    return whx_family_table(k, m, wh_write_place(out), out == NULL ? 0 : out_len);
+    return whx_family_table(k, m, family, wh_write_place(out), out == NULL ? 0 : out_len);
 }
 
 /* Says whether the table has growing differences: for rows a < a' and columns b < b',

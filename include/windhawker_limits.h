@@ -9,6 +9,12 @@
 #define WH_MAX_LENGTH 56
 #define WH_MAX_SHIFT 64
 #define WH_LONGEST 64
+#define WH_FAMILIES 3
+
+/* The families of shift tables. */
+#define WH_HOUSE 1
+#define WH_HANKEL 2
+#define WH_VANDERMONDE 3
 
 /* The list of numbers. */
 #define WH_DONE 0
@@ -30,5 +36,6 @@
 #define WH_ROOM 16
 #define WH_PROGRESS 17
 #define WH_LINE 18
+#define WH_FAMILY 19
 
 #endif

@@ -1,10 +1,16 @@
 /* Lesson 1: make a shift table, and encode.
  *
+ *   1_encode           with the house table
+ *   1_encode FAMILY    with the table of this family: 1 house, 2 Hankel, 3 Vandermonde
+ *
  * Three sources of three bytes become two parities. The picture shows each parity as what it is:
  * the sources, each shifted up by its entry of the table, added bit by bit (XOR). */
 #include "show.h"
 
 enum { K = 3, M = 2, L = 3 };
+
+static const char usage[] =
+    "usage: 1_encode [FAMILY], a number: 1 house, 2 Hankel, 3 Vandermonde\n";
 
 static void draw_parity(unsigned a, const uint8_t *row, const uint8_t *sources,
                         const uint8_t *parity, size_t length)
@@ -22,12 +28,17 @@ static void draw_parity(unsigned a, const uint8_t *row, const uint8_t *sources,
     printf("\n");
 }
 
-int main(void)
+int main(int words, char **word)
 {
     const uint8_t sources[K * L] = {'s', 'u', 'n', 'f', 'o', 'g', 'i', 'c', 'e'};
     uint8_t table[M * K], parities[M * WH_LONGEST];
+    uint64_t family = WH_HOUSE;
 
-    must(wh_family_table(K, M, table, sizeof table), "wh_family_table");
+    if (words > 2 || (words == 2 && !read_number(word[1], UINT64_MAX, &family))) {
+        fputs(usage, stderr);
+        return 2;
+    }
+    must(wh_family_table(K, M, family, table, sizeof table), "wh_family_table");
     wh_measured parity = wh_packet_length(K, M, L, table, sizeof table, K + 1);
     must(parity.number, "wh_packet_length");
     size_t length = (size_t)parity.length;

@@ -65,7 +65,7 @@ int main(void)
         uint8_t packet[PACKET];
         uint8_t table[4]; /* right behind the packet */
     } desk;
-    must(wh_family_table(2, 2, desk.table, sizeof desk.table), "wh_family_table");
+    must(wh_family_table(2, 2, WH_HOUSE, desk.table, sizeof desk.table), "wh_family_table");
     for (size_t i = 0; i < sizeof reader / sizeof reader[0]; i++) {
         memset(desk.packet, 0, PACKET);
         take(&reader[i], desk.packet);

@@ -74,7 +74,7 @@ static void repair(uint64_t marks, uint64_t packet)
 int main(void)
 {
     uint8_t packets[N * WH_LONGEST];
-    must(wh_family_table(K, M, table, sizeof table), "wh_family_table");
+    must(wh_family_table(K, M, WH_HOUSE, table, sizeof table), "wh_family_table");
     printf("The log \"%s\" on five cards.\n\n", recorded);
 
     rebuild_from(0x07); /* nothing that matters is lost */

@@ -239,7 +239,7 @@ int main(int words, char **word)
 {
     decoding d = {.table = {0}};
     if (words == 1) {
-        must(wh_family_table(K, M, d.table, sizeof d.table), "wh_family_table");
+        must(wh_family_table(K, M, WH_HOUSE, d.table, sizeof d.table), "wh_family_table");
     } else if (!read_table(words - 1, word + 1, d.table)) {
         fputs(usage, stderr);
         return 2;

@@ -57,7 +57,7 @@ static job new_job(char **word, const char *log, const char *folder)
 {
     job j = {.k = number_in(word[0]), .m = number_in(word[1]), .l = number_in(word[2])};
     j.table_len = j.k <= WH_MAX_K && j.m <= WH_MAX_M ? (size_t)(j.k * j.m) : 0;
-    must(wh_family_table(j.k, j.m, j.table, j.table_len), "cards:");
+    must(wh_family_table(j.k, j.m, WH_HOUSE, j.table, j.table_len), "cards:");
     j.stripe = (size_t)j.k * packet_length(&j, 1);
     j.log = log;
     j.folder = folder;

@@ -27,7 +27,7 @@ static size_t lengths[N]; /* bytes of each packet */
 
 static void write_cards(void)
 {
-    must(wh_family_table(K, M, table, sizeof table), "wh_family_table");
+    must(wh_family_table(K, M, WH_HOUSE, table, sizeof table), "wh_family_table");
     for (size_t i = 0; i < sizeof sources; i++) {
         sources[i] = (uint8_t)(37 * i + 11);
     }

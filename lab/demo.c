@@ -58,7 +58,7 @@ static void cut(void)
 static void encode(void)
 {
     printf("\n3. Coded onto %d cards. The shift table:\n", N);
-    must(wh_family_table(K, M, table, sizeof table), "wh_family_table");
+    must(wh_family_table(K, M, WH_HOUSE, table, sizeof table), "wh_family_table");
     for (int a = 1; a <= M; a++) {
         printf("   parity %d is", a);
         for (int b = 1; b <= K; b++) {

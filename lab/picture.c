@@ -107,7 +107,7 @@ static void draw_places(void)
 int main(void)
 {
     drawing d = {.count = 0};
-    must(wh_family_table(K, M, d.table, sizeof d.table), "wh_family_table");
+    must(wh_family_table(K, M, WH_HOUSE, d.table, sizeof d.table), "wh_family_table");
     take_all_steps(&d);
     printf("<svg xmlns=\"http://www.w3.org/2000/svg\" viewBox=\"0 0 %d %d\" width=\"%d\" "
            "height=\"%d\" font-family=\"sans-serif\">\n"

@@ -12,11 +12,12 @@ enum { WORDS_MOST = 400 };
 
 static void describe(const question *q, char *words)
 {
-    int used = snprintf(words, WORDS_MOST,
-                        "k %" PRIu64 " m %" PRIu64 " l %" PRIu64 " marks %" PRIu64
-                        " packet %" PRIu64 " source %" PRIu64 " lengths %zu %zu %zu %zu table",
-                        q->k, q->m, q->l, q->marks, q->packet, q->source, q->table.length,
-                        q->input.length, q->rebuilt.length, q->output.length);
+    int used =
+        snprintf(words, WORDS_MOST,
+                 "k %" PRIu64 " m %" PRIu64 " l %" PRIu64 " family %" PRIu64 " marks %" PRIu64
+                 " packet %" PRIu64 " source %" PRIu64 " lengths %zu %zu %zu %zu table",
+                 q->k, q->m, q->l, q->family, q->marks, q->packet, q->source, q->table.length,
+                 q->input.length, q->rebuilt.length, q->output.length);
     for (size_t i = 0; i < q->table.length && i < 16; i++) {
         used += snprintf(words + used, (size_t)(WORDS_MOST - used), " %d", q->table.at[i]);
     }

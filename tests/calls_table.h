@@ -8,7 +8,7 @@
 
 static inline answer ask_family_table(const question *q, const lent *at)
 {
-    return numbered(wh_family_table(q->k, q->m, at->output, q->output.length), 0);
+    return numbered(wh_family_table(q->k, q->m, q->family, at->output, q->output.length), 0);
 }
 
 static inline answer ask_judge(const question *q, const lent *at)

@@ -11,12 +11,16 @@ void set_bytes(bytes *to, uint64_t length)
     random_bytes(to->at, to->length);
 }
 
+void set_family_table(question *q, uint64_t family)
+{
+    q->family = family;
+    q->table.length = (size_t)(q->m * q->k);
+    write_family_table(q, q->table.at);
+}
+
 void set_house_table(question *q)
 {
-    q->table.length = (size_t)(q->m * q->k);
-    for (size_t i = 0; i < q->table.length; i++) {
-        q->table.at[i] = (uint8_t)((i / q->k + 1) * (i % q->k));
-    }
+    set_family_table(q, WH_HOUSE);
 }
 
 question house_question(uint64_t k, uint64_t m, uint64_t l)
@@ -34,6 +38,16 @@ question largest_question(void)
     return house_question(WH_MAX_K, WH_MAX_M, WH_MAX_LENGTH);
 }
 
+question family_question(uint64_t table)
+{
+    question q = {0};
+    q.k = table / WH_MAX_M % WH_MAX_K + 1;
+    q.m = table % WH_MAX_M + 1;
+    q.l = 1;
+    set_family_table(&q, table / WH_MAX_M / WH_MAX_K + 1);
+    return q;
+}
+
 static void set_table_below(question *q, uint64_t bound)
 {
     q->table.length = (size_t)(q->m * q->k);
@@ -42,16 +56,21 @@ static void set_table_below(question *q, uint64_t bound)
     }
 }
 
-/* One entry of the house table changed, or the whole of it moved up. */
-static void set_bent_house_table(question *q)
+/* The table of any family; then one entry of it changed, or the whole of it moved up. */
+static void draw_family_table(question *q)
 {
-    set_house_table(q);
+    set_family_table(q, random_between(1, WH_FAMILIES));
+}
+
+static void draw_bent_family_table(question *q)
+{
+    draw_family_table(q);
     q->table.at[random_below(q->table.length)] = (uint8_t)random_below(WH_MAX_SHIFT + 1);
 }
 
-static void set_raised_house_table(question *q)
+static void draw_raised_family_table(question *q)
 {
-    set_house_table(q);
+    draw_family_table(q);
     uint8_t raise = (uint8_t)random_below(WH_MAX_SHIFT + 1 - largest_entry(q));
     for (size_t i = 0; i < q->table.length; i++) {
         q->table.at[i] = (uint8_t)(q->table.at[i] + raise);
@@ -64,13 +83,13 @@ void draw_table(question *q)
     case 0:
     case 1:
     case 2:
-        set_house_table(q);
+        draw_family_table(q);
         break;
     case 3:
-        set_raised_house_table(q);
+        draw_raised_family_table(q);
         break;
     case 4:
-        set_bent_house_table(q);
+        draw_bent_family_table(q);
         break;
     default:
         set_table_below(q, random_between(1, WH_MAX_SHIFT + 1));
@@ -156,6 +175,7 @@ void damage(bytes *packets)
 void draw_for_family_table(question *q)
 {
     draw_shape(q);
+    q->family = random_between(1, WH_FAMILIES);
     set_bytes(&q->output, q->m * q->k);
 }
 

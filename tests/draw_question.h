@@ -6,9 +6,12 @@
 
 #include <stdbool.h>
 
-/* A question with this shape, or one at the limits, and the house table, and nothing else yet. */
+/* A question with this shape, or one at the limits, and the house table, and nothing else yet; or
+ * with l = 1 and one of the tables of every family and every size, which are counted from 0. */
 question house_question(uint64_t k, uint64_t m, uint64_t l);
 question largest_question(void);
+enum { FAMILY_TABLES = WH_FAMILIES * WH_MAX_K * WH_MAX_M };
+question family_question(uint64_t table);
 
 /* Goes to the next choice of exactly k marks, from marks 0 on; false after the last. */
 bool next_choice(question *q);
@@ -20,6 +23,7 @@ void draw_table(question *q);
 void draw_marks(question *q);
 void lose_every_source(question *q); /* parities 1 to k are at hand */
 void set_house_table(question *q);
+void set_family_table(question *q, uint64_t family);
 void set_bytes(bytes *to, uint64_t length); /* that many random bytes */
 
 /* Input and output that fit a shape and marks which are already there. */
@@ -42,13 +46,13 @@ void draw_for_look(question *q);
 void draw_for_block(question *q);
 
 /* Spoiling one place, at random or with a chosen value of the row of telling ones. The places are
- * six numbers, each source's progress, four lengths, and any byte of the table and of the input. */
+ * seven numbers, each source's progress, four lengths, and any byte of the table or of the input. */
 enum {
-    PROGRESS_PLACE = 6,
+    PROGRESS_PLACE = 7,
     LENGTH_PLACE = PROGRESS_PLACE + WH_MAX_K,
     BYTE_PLACE = LENGTH_PLACE + LENT_BUFFERS,
     SPOILED_PLACES = BYTE_PLACE + 2,
-    TELLING_VALUES = 26
+    TELLING_VALUES = 27
 };
 void spoil(question *q);
 void spoil_place(question *q, size_t place, size_t value);

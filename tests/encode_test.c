@@ -56,16 +56,13 @@ static void every_single_one(void)
     }
 }
 
-static void house_tables_of_every_size(void)
+static void every_family_table(void)
 {
-    question q = {0};
-    for (q.k = 1; q.k <= WH_MAX_K; q.k++) {
-        for (q.m = 1; q.m <= WH_MAX_M; q.m++) {
-            q.l = random_between(1, WH_MAX_LENGTH);
-            set_house_table(&q);
-            set_bytes(&q.input, q.k * q.l);
-            compare_all_packets(&q);
-        }
+    for (uint64_t table = 0; table < FAMILY_TABLES; table++) {
+        question q = family_question(table);
+        q.l = random_between(1, WH_MAX_LENGTH);
+        set_bytes(&q.input, q.k * q.l);
+        compare_all_packets(&q);
     }
 }
 
@@ -118,7 +115,7 @@ int main(void)
         {"encode_every_byte_at_every_shift", every_byte_at_every_shift},
         {"encode_every_length_at_every_shift", every_length_at_every_shift},
         {"encode_every_single_one", every_single_one},
-        {"encode_house_tables_of_every_size", house_tables_of_every_size},
+        {"encode_every_family_table", every_family_table},
         {"encode_at_the_limits", at_the_limits},
         {"encode_equal_sources_cancel", equal_sources_cancel},
         {"encode_all_takes_any_numbers", encode_all_takes_any_numbers},

@@ -12,9 +12,49 @@ static void family_table_3_3(void)
     gives(&packet_length_call, q, done_with(2), "");
 }
 
+static question of_family(uint64_t family, uint64_t k, uint64_t m)
+{
+    question q = house_question(k, m, 1);
+    q.family = family;
+    return q;
+}
+
+static void family_table_hankel(void)
+{
+    gives(&family_table_call, of_family(WH_HANKEL, 3, 4), done(),
+          "03 01 00  01 00 00  00 00 01  00 01 03");
+    gives(&family_table_call, of_family(WH_HANKEL, 4, 3), done(),
+          "03 01 00 00  01 00 00 01  00 00 01 03");
+}
+
+static void family_table_hankel_8_8(void)
+{
+    gives(&family_table_call, of_family(WH_HANKEL, 8, 8), done(),
+          "15 0F 0A 06 03 01 00 00  0F 0A 06 03 01 00 00 01  0A 06 03 01 00 00 01 03 "
+          "06 03 01 00 00 01 03 06  03 01 00 00 01 03 06 0A  01 00 00 01 03 06 0A 0F "
+          "00 00 01 03 06 0A 0F 15  00 01 03 06 0A 0F 15 1C");
+}
+
+static void family_table_vandermonde_3_3(void)
+{
+    gives(&family_table_call, of_family(WH_VANDERMONDE, 3, 3), done(),
+          "00 00 00  00 01 02  00 02 04");
+}
+
 static void family_table_into_a_wrong_buffer(void)
 {
     refuses(&family_table_call, example(), refused(WH_OUTPUT), 3);
+    refuses(&family_table_call, of_family(WH_HANKEL, 2, 2), refused(WH_OUTPUT), 5);
+}
+
+static void family_table_of_no_family(void)
+{
+    static const uint64_t families[] = {0, WH_FAMILIES + 1, UINT64_MAX};
+    for (size_t i = 0; i < sizeof families / sizeof families[0]; i++) {
+        refuses(&family_table_call, of_family(families[i], 2, 2), refused(WH_FAMILY), 4);
+        refuses(&family_table_call, of_family(families[i], 2, 2), refused(WH_FAMILY), 3);
+        refuses(&family_table_call, of_family(families[i], 0, 2), refused(WH_SIZE), 4);
+    }
 }
 
 static void judge_house_table(void)
@@ -84,7 +124,11 @@ int main(void)
 {
     static const named_test tests[] = {
         {"example_family_table_3_3", family_table_3_3},
+        {"example_family_table_hankel", family_table_hankel},
+        {"example_family_table_hankel_8_8", family_table_hankel_8_8},
+        {"example_family_table_vandermonde_3_3", family_table_vandermonde_3_3},
         {"example_family_table_into_a_wrong_buffer", family_table_into_a_wrong_buffer},
+        {"example_family_table_of_no_family", family_table_of_no_family},
         {"example_judge_house_table", judge_house_table},
         {"example_judge_says_no_of_decodable_table", judge_says_no_of_decodable_table},
         {"example_judge_one_row_or_one_column", judge_one_row_or_one_column},

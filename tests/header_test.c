@@ -37,7 +37,8 @@ static int meanings_differ(void)
             }
         }
     }
-    return strcmp(wh_meaning(WH_DONE), none) != 0 && strcmp(wh_meaning(WH_LINE), none) != 0;
+    return strcmp(wh_meaning(WH_DONE), none) != 0 && strcmp(wh_meaning(WH_LINE), none) != 0 &&
+           strcmp(wh_meaning(WH_FAMILY), none) != 0;
 }
 
 static int ends_with(const char *words, int limit)
@@ -51,7 +52,8 @@ static int meanings_have_the_limits(void)
 {
     return ends_with(wh_meaning(WH_SIZE), WH_MAX_K) && ends_with(wh_meaning(WH_SIZE), WH_MAX_M) &&
            ends_with(wh_meaning(WH_LENGTH), WH_MAX_LENGTH) &&
-           ends_with(wh_meaning(WH_TABLE), WH_MAX_SHIFT);
+           ends_with(wh_meaning(WH_TABLE), WH_MAX_SHIFT) &&
+           ends_with(wh_meaning(WH_FAMILY), WH_FAMILIES);
 }
 
 static int says(uint64_t number, const char *words)
@@ -96,7 +98,7 @@ static int null_is_no_bytes(void)
     const uint64_t progress[WH_MAX_K] = {0};
     uint8_t out[4];
     const given answers[] = {
-        {"the family table", wh_family_table(2, 2, none, 4), WH_OUTPUT},
+        {"the family table", wh_family_table(2, 2, WH_HOUSE, none, 4), WH_OUTPUT},
         {"judge's table", wh_judge(2, 2, none, 4).number, WH_TABLE},
         {"packet length's table", wh_packet_length(2, 2, 1, none, 4, 3).number, WH_TABLE},
         {"survivors length's table", wh_survivors_length(2, 2, 1, none, 4, 12).number, WH_TABLE},
@@ -127,7 +129,7 @@ static int null_is_no_bytes(void)
 static int links_and_runs(void)
 {
     uint8_t table[4];
-    return wh_family_table(2, 2, table, sizeof table) == WH_DONE && table[3] == 2;
+    return wh_family_table(2, 2, WH_HOUSE, table, sizeof table) == WH_DONE && table[3] == 2;
 }
 
 int main(void)

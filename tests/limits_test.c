@@ -20,6 +20,16 @@ static void one_more_is_refused(void)
     expect_measured(house_question(WH_MAX_K, WH_MAX_M + 1, 1), WH_SIZE);
 }
 
+static void one_more_family_is_refused(void)
+{
+    question q = largest_question();
+    set_bytes(&q.output, q.m * q.k);
+    q.family = WH_FAMILIES;
+    expect_number(compare(&family_table_call, &q).number, WH_DONE);
+    q.family = WH_FAMILIES + 1;
+    expect_number(compare(&family_table_call, &q).number, WH_FAMILY);
+}
+
 static void longest_packet_is_reached(void)
 {
     question q = largest_question();
@@ -34,6 +44,7 @@ int main(void)
 {
     static const named_test tests[] = {
         {"limits_one_more_is_refused", one_more_is_refused},
+        {"limits_one_more_family_is_refused", one_more_family_is_refused},
         {"limits_longest_packet_is_reached", longest_packet_is_reached},
     };
     return run_named_tests(tests, sizeof tests / sizeof tests[0]);

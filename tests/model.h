@@ -1,7 +1,8 @@
-/* What every call should answer, in plain C and straight from docs/RULES.md, as slow as it likes.
- * Nothing of the library is used but the names of the limits and of the numbers, which pinned_test
- * holds to the rules. Sources, parities and packets are numbered from 1, as in the rules. A model
- * call writes its output only when it is done. */
+/* What every call should answer, in plain C and straight from docs/RULES.md, as slow as it likes;
+ * the Hankel family straight from its paper. Nothing of the library is used but the names of the
+ * limits, of the families and of the numbers, which pinned_test holds to the rules. Sources,
+ * parities and packets are numbered from 1, as in the rules. A model call writes its output only
+ * when it is done. */
 #ifndef MODEL_H
 #define MODEL_H
 
@@ -32,7 +33,8 @@ bool bad_length(const question *q);
 bool bad_table(const question *q);
 bool bad_packet(const question *q);
 
-/* From here on the shape is one that was not refused. */
+/* From here on the shape is one that was not refused, and so is the family. */
+void write_family_table(const question *q, uint8_t *out);
 uint64_t entry(const question *q, uint64_t a, uint64_t b);
 uint64_t largest_entry(const question *q);
 uint64_t source_bits(const question *q);

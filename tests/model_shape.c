@@ -127,22 +127,6 @@ uint64_t survivors_bytes(const question *q)
     return packet_place(q, q->k + q->m + 1);
 }
 
-answer model_family_table(const question *q, uint8_t *output)
-{
-    if (bad_size(q)) {
-        return refused(WH_SIZE);
-    }
-    if (q->output.length != q->m * q->k) {
-        return refused(WH_OUTPUT);
-    }
-    for (uint64_t a = 1; a <= q->m; a++) {
-        for (uint64_t b = 1; b <= q->k; b++) {
-            *output++ = (uint8_t)(a * (b - 1));
-        }
-    }
-    return done();
-}
-
 static bool differences_grow(const question *q, uint64_t a1, uint64_t a2, uint64_t b1, uint64_t b2)
 {
     int64_t above = (int64_t)entry(q, a1, b2) - (int64_t)entry(q, a1, b1);

@@ -1,19 +1,20 @@
-/* The limits and the list of numbers of docs/RULES.md. Digits stand for them here and nowhere else:
- * all other files say their names, so a name that had another value would be found out here. */
+/* The limits, the families and the list of numbers of docs/RULES.md. Digits stand for them here and
+ * nowhere else: all other files say their names, so a name that had another value would be found
+ * out here. */
 #include "check.h"
 #include "windhawker_limits.h"
 
 typedef struct {
     const char *name;
     int value;
-    int in_document_01;
+    int in_the_rules;
 } pinned;
 
 static void expect_pinned(const pinned *names, size_t count)
 {
     for (size_t i = 0; i < count; i++) {
-        if (names[i].value != names[i].in_document_01) {
-            fail("%s is %d, not %d", names[i].name, names[i].value, names[i].in_document_01);
+        if (names[i].value != names[i].in_the_rules) {
+            fail("%s is %d, not %d", names[i].name, names[i].value, names[i].in_the_rules);
         }
     }
 }
@@ -26,6 +27,17 @@ static void limits(void)
         {"WH_MAX_LENGTH", WH_MAX_LENGTH, 56},
         {"WH_MAX_SHIFT", WH_MAX_SHIFT, 64},
         {"WH_LONGEST", WH_LONGEST, 64},
+        {"WH_FAMILIES", WH_FAMILIES, 3},
+    };
+    expect_pinned(names, sizeof names / sizeof names[0]);
+}
+
+static void families(void)
+{
+    static const pinned names[] = {
+        {"WH_HOUSE", WH_HOUSE, 1},
+        {"WH_HANKEL", WH_HANKEL, 2},
+        {"WH_VANDERMONDE", WH_VANDERMONDE, 3},
     };
     expect_pinned(names, sizeof names / sizeof names[0]);
 }
@@ -52,6 +64,7 @@ static void numbers(void)
         {"WH_ROOM", WH_ROOM, 16},
         {"WH_PROGRESS", WH_PROGRESS, 17},
         {"WH_LINE", WH_LINE, 18},
+        {"WH_FAMILY", WH_FAMILY, 19},
     };
     expect_pinned(names, sizeof names / sizeof names[0]);
 }
@@ -60,6 +73,7 @@ int main(void)
 {
     static const named_test tests[] = {
         {"pinned_limits", limits},
+        {"pinned_families", families},
         {"pinned_numbers", numbers},
     };
     return run_named_tests(tests, sizeof tests / sizeof tests[0]);

@@ -18,6 +18,7 @@ typedef struct {
 
 typedef struct {
     uint64_t k, m, l;
+    uint64_t family;
     uint64_t marks;
     uint64_t packet;
     uint64_t source;

@@ -35,8 +35,8 @@ static void expect_round_trip(question *q)
 
 static void round_trip_of_every_choice(void)
 {
-    for (uint64_t size = 0; size < WH_MAX_K * WH_MAX_M; size++) {
-        question q = house_question(size / WH_MAX_M + 1, size % WH_MAX_M + 1, 1);
+    for (uint64_t table = 0; table < FAMILY_TABLES; table++) {
+        question q = family_question(table);
         while (next_choice(&q)) {
             expect_round_trip(&q);
         }
@@ -47,8 +47,8 @@ static void round_trip_of_every_length(void)
 {
     for (uint64_t l = 1; l <= WH_MAX_LENGTH; l++) {
         for (int i = 0; i < 10; i++) {
-            uint64_t k = random_between(1, WH_MAX_K), m = random_between(1, WH_MAX_M);
-            question q = house_question(k, m, l);
+            question q = family_question(random_below(FAMILY_TABLES));
+            q.l = l;
             draw_marks(&q);
             expect_round_trip(&q);
         }
@@ -58,7 +58,8 @@ static void round_trip_of_every_length(void)
 static void round_trip_at_the_limits(void)
 {
     question q = largest_question();
-    for (int i = 0; i < 10; i++) {
+    for (uint64_t i = 0; i < 4 * WH_FAMILIES; i++) {
+        set_family_table(&q, i % WH_FAMILIES + 1);
         lose_every_source(&q);
         expect_round_trip(&q);
         draw_marks(&q);

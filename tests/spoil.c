@@ -4,7 +4,7 @@
 
 static uint64_t *number_at(question *q, size_t place)
 {
-    uint64_t *numbers[] = {&q->k, &q->m, &q->l, &q->marks, &q->packet, &q->source};
+    uint64_t *numbers[] = {&q->k, &q->m, &q->l, &q->family, &q->marks, &q->packet, &q->source};
     if (place < PROGRESS_PLACE) {
         return numbers[place];
     }
@@ -27,6 +27,7 @@ static uint64_t telling_number(uint64_t old, size_t value)
         1,
         2,
         3,
+        WH_FAMILIES + 1,
         WH_MAX_K - 1,
         WH_MAX_K,
         WH_MAX_K + 1,

@@ -5,15 +5,39 @@
 
 #include <string.h>
 
-static void family_table_of_every_size(void)
+/* Every size and some beyond, each with an output of every length. */
+static void compare_every_size(uint64_t family)
 {
-    question q = {0};
+    question q = {.family = family};
     for (q.k = 0; q.k <= WH_MAX_K + 2; q.k++) {
         for (q.m = 0; q.m <= WH_MAX_M + 2; q.m++) {
             for (uint64_t length = 0; length <= (WH_MAX_K + 2) * (WH_MAX_M + 3); length++) {
                 set_bytes(&q.output, length);
                 compare(&family_table_call, &q);
             }
+        }
+    }
+}
+
+static void family_table_of_every_size(void)
+{
+    for (uint64_t family = 0; family <= WH_FAMILIES + 1; family++) {
+        compare_every_size(family);
+    }
+    compare_every_size(UINT64_MAX);
+}
+
+/* The largest entry of each table that the library writes is what the papers' formulas say. */
+static void family_table_largest_entries(void)
+{
+    for (uint64_t table = 0; table < FAMILY_TABLES; table++) {
+        question q = family_question(table);
+        uint64_t half = (q.k + q.m) / 2;
+        const uint64_t largest[] = {q.m * (q.k - 1), half * (half - 1) / 2, (q.m - 1) * (q.k - 1)};
+        memset(q.table.at, 0xAA, q.table.length);
+        expect_number(wh_family_table(q.k, q.m, q.family, q.table.at, q.table.length), WH_DONE);
+        if (largest_entry(&q) != largest[q.family - 1]) {
+            fail("another largest entry");
         }
     }
 }
@@ -53,21 +77,27 @@ static void judge_every_small_table(void)
     judge_every_table(3, 3, 3);
 }
 
-/* One entry of a growing table one up or one down: the edge of "less than". */
-static void judge_house_tables_bent(void)
+static void judge_says_yes_of_every_family_table(void)
 {
-    question q = {0};
-    for (q.k = 1; q.k <= WH_MAX_K; q.k++) {
-        for (q.m = 1; q.m <= WH_MAX_M; q.m++) {
-            set_house_table(&q);
-            for (size_t i = 0; i < q.table.length; i++) {
-                compare(&judge_call, &q);
-                q.table.at[i]++;
-                compare(&judge_call, &q);
-                q.table.at[i] = (uint8_t)(q.table.at[i] - 2);
-                compare(&judge_call, &q);
-                q.table.at[i]++;
-            }
+    for (uint64_t table = 0; table < FAMILY_TABLES; table++) {
+        question q = family_question(table);
+        if (compare(&judge_call, &q).results[0] != 1) {
+            fail("a family's table does not grow");
+        }
+    }
+}
+
+/* One entry of a growing table one up or one down: the edge of "less than". */
+static void judge_family_tables_bent(void)
+{
+    for (uint64_t table = 0; table < FAMILY_TABLES; table++) {
+        question q = family_question(table);
+        for (size_t i = 0; i < q.table.length; i++) {
+            q.table.at[i]++;
+            compare(&judge_call, &q);
+            q.table.at[i] = (uint8_t)(q.table.at[i] - 2);
+            compare(&judge_call, &q);
+            q.table.at[i]++;
         }
     }
 }
@@ -158,10 +188,12 @@ int main(void)
 {
     static const named_test tests[] = {
         {"family_table_of_every_size", family_table_of_every_size},
+        {"family_table_largest_entries", family_table_largest_entries},
         {"family_table_takes_any_numbers", family_table_takes_any_numbers},
         {"family_table_spoiled", family_table_spoiled},
         {"judge_every_small_table", judge_every_small_table},
-        {"judge_house_tables_bent", judge_house_tables_bent},
+        {"judge_says_yes_of_every_family_table", judge_says_yes_of_every_family_table},
+        {"judge_family_tables_bent", judge_family_tables_bent},
         {"judge_falling_rows", judge_falling_rows},
         {"judge_takes_any_numbers", judge_takes_any_numbers},
         {"judge_spoiled", judge_spoiled},

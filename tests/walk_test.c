@@ -6,18 +6,14 @@
 #include <inttypes.h>
 #include <string.h>
 
-/* Any k packets of a house table: whole, after 8 l steps for each missing source. */
-static void walk_every_choice_of_every_house_table(void)
+/* Any k packets of a family's table: whole, after 8 l steps for each missing source. */
+static void walk_every_choice_of_every_family_table(void)
 {
-    question q = {0};
-    q.l = 1;
-    for (q.k = 1; q.k <= WH_MAX_K; q.k++) {
-        for (q.m = 1; q.m <= WH_MAX_M; q.m++) {
-            set_house_table(&q);
-            for (q.marks = 0; next_choice(&q);) {
-                if (compare(&walk_call, &q).results[1] != 1) {
-                    fail("a house table stalls");
-                }
+    for (uint64_t table = 0; table < FAMILY_TABLES; table++) {
+        question q = family_question(table);
+        while (next_choice(&q)) {
+            if (compare(&walk_call, &q).results[1] != 1) {
+                fail("a family's table stalls");
             }
         }
     }
@@ -202,7 +198,7 @@ static void slots_are_set_when_refused(void)
 int main(void)
 {
     static const named_test tests[] = {
-        {"walk_every_choice_of_every_house_table", walk_every_choice_of_every_house_table},
+        {"walk_every_choice_of_every_family_table", walk_every_choice_of_every_family_table},
         {"walk_every_small_table", walk_every_small_table},
         {"walk_tables_full_of_ties", walk_tables_full_of_ties},
         {"walk_all_marks_of_small_shapes", walk_all_marks_of_small_shapes},

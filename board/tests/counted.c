@@ -128,7 +128,7 @@ int main(void)
     for (int i = 0; i < 3; i++) {
         const shape *s = &shapes[i];
         size_t cells = (size_t)(s->k * s->m);
-        uint64_t number = wh_family_table(s->k, s->m, table, cells);
+        uint64_t number = wh_family_table(s->k, s->m, WH_HOUSE, table, cells);
         wh_measured parity = wh_packet_length(s->k, s->m, s->l, table, cells, s->k + 1);
         if (number != WH_DONE || parity.number != WH_DONE) {
             say_count("refused", s, number);

@@ -62,8 +62,8 @@ static void at_the_limits(void)
     question q = largest_question();
     lose_every_source(&q);
     compare(&walk_call, &q);
-    for (int i = 0; i < 4; i++) {
-        set_house_table(&q);
+    for (int i = 0; i < 2 * WH_FAMILIES; i++) {
+        set_family_table(&q, (uint64_t)i / 2 + 1);
         if (i % 2 == 1) {
             q.table.at[q.table.length - 1] = WH_MAX_SHIFT;
         }

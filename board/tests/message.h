@@ -31,7 +31,7 @@ typedef enum {
 } call_number;
 
 typedef struct {
-    uint64_t call, k, m, l, marks, packet, source;
+    uint64_t call, k, m, l, family, marks, packet, source;
     uint64_t progress[WH_MAX_K];
     uint64_t lengths[BUFFERS];
 } asked_message;

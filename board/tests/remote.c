@@ -12,9 +12,10 @@ static uint64_t run_for_one(const errand *e, uint64_t *result)
     return answered.number;
 }
 
-uint64_t whx_family_table(uint64_t k, uint64_t m, uint8_t *out, uint64_t out_len)
+uint64_t whx_family_table(uint64_t k, uint64_t m, uint64_t family, uint8_t *out, uint64_t out_len)
 {
     errand e = new_errand(FAMILY_TABLE, k, m, 0);
+    e.words.family = family;
     lend_output(&e, out, out_len);
     return run(&e).number;
 }

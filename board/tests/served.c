@@ -105,7 +105,7 @@ __attribute__((noinline)) static uint64_t ask(void)
     set_results(0, 0, NULL, 0);
     switch ((call_number)asked.call) {
     case FAMILY_TABLE:
-        return wh_family_table(asked.k, asked.m, buffers[OUTPUT], lengths[OUTPUT]);
+        return wh_family_table(asked.k, asked.m, asked.family, buffers[OUTPUT], lengths[OUTPUT]);
     case JUDGE:
         return judge();
     case PACKET_LENGTH:

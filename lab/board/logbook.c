@@ -64,7 +64,7 @@ int main(void)
     for (size_t i = 0; i < sizeof received / sizeof received[0]; i++) {
         take(&received[i]);
     }
-    must(wh_family_table(K, M, table, sizeof table), "wh_family_table");
+    must(wh_family_table(K, M, WH_HOUSE, table, sizeof table), "wh_family_table");
     wh_rebuilt rebuilt = wh_rebuild(K, M, L, table, sizeof table, marks, packets, packets_length,
                                     (uint8_t *)logbook, K * L);
     must(rebuilt.number, "wh_rebuild");

@@ -23,7 +23,7 @@ int main(void)
     if (back == NULL) {
         return 2;
     }
-    uint64_t number = wh_family_table(K, M, table, sizeof table);
+    uint64_t number = wh_family_table(K, M, WH_HOUSE, table, sizeof table);
     if (number != WH_DONE) {
         return refused(number);
     }

@@ -45,8 +45,9 @@ static uint64_t sheet_number(const char *input, size_t length, question *q)
 
 static void fill_house_table(question *q)
 {
-    q->table.length = q->output.length = (size_t)(q->k * q->m);
-    model_family_table(q, q->table.at);
+    q->family = WH_HOUSE;
+    q->table.length = (size_t)(q->k * q->m);
+    write_family_table(q, q->table.at);
 }
 
 static void print_row(question *q, const uint64_t *ids)

@@ -10,7 +10,7 @@ uint64_t lend_nothing(uint8_t *maybe_null, uint64_t length);
 uint64_t ask_all(void)
 {
     uint64_t number = 0;
-    number |= wh_family_table(2, 2, output, 4);
+    number |= wh_family_table(2, 2, WH_HOUSE, output, 4);
     number |= wh_judge(2, 2, table, 4).number;
     number |= wh_packet_length(2, 2, 1, table, 4, 3).number;
     number |= wh_survivors_length(2, 2, 1, table, 4, 12).number;
@@ -28,7 +28,7 @@ uint64_t ask_all(void)
 /* NULL with length 0, and any pointer with any length as far as a compiler can know. */
 uint64_t lend_nothing(uint8_t *maybe_null, uint64_t length)
 {
-    uint64_t none = wh_family_table(2, 2, NULL, 0);
+    uint64_t none = wh_family_table(2, 2, WH_HOUSE, NULL, 0);
     none |= wh_block(maybe_null, length, NULL, 0).number;
     none |= wh_judge(2, 2, maybe_null, length).number;
     none |= wh_rebuild(2, 2, 1, NULL, 0, 12, maybe_null, length, NULL, 0).number;

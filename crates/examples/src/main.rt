@@ -2,6 +2,7 @@
 // Unless a line says so, k = 2, m = 2, L = 1 and the table is the house table (0,1),(0,2).
 use libc::STDOUT_FILENO;
 use look::Buffer;
+use table::Family;
 use table::Table;
 ghost use Prim.Native.Nat.{_<_};
 
@@ -97,12 +98,30 @@ fn say_answer(number: u64, bytes: &[u8]) {
     say(b"\n");
 }
 
-// The house table of three sources and three parities.
-fn family() {
-    let mut rows = [0u8; 9];
-    family::family_table(3, 3, &mut rows);
-    say(b"k = 3, m = 3: rows ");
-    say_entries(&rows);
+// What stands before the numbers of a table that is not the house family's.
+fn say_family(family: u64) {
+    if family != Family::HOUSE {
+        say(b"family ");
+        say_number(family);
+        say(b", ");
+    }
+}
+
+// The table of a family, into rows.
+fn family(k: u64, m: u64, family: u64, rows: &mut [u8]) {
+    let number = family::family_table(k, m, family, rows);
+    say_family(family);
+    say(b"k = ");
+    say_number(k);
+    say(b", m = ");
+    say_number(m);
+    say(b": ");
+    if number != 0 {
+        say_refused(number);
+        return;
+    }
+    say(b"rows ");
+    say_entries(rows);
     say(b"\n");
 }
 
@@ -252,7 +271,8 @@ fn looked<'a>(source: u64, survivors: &'a [u8], rebuilt: &'a [u8]) {
 }
 
 fn house_tables() {
-    family();
+    let mut rows = [0u8; 9];
+    family(3, 3, Family::HOUSE, &mut rows);
     encoded(b"\x01\x01");
     encoded(b"\x80\xC0");
     rebuilt_two(&HOUSE, 12, b"\x03\x00\x05\x00");
@@ -260,6 +280,19 @@ fn house_tables() {
     walked(&HOUSE, 2, 3);
     rebuilt_two(&HOUSE, 12, b"\x03\x00\x05\x04");
     rebuilt_two(&HOUSE, 12, b"\x03\x00\x05\x01");
+}
+
+// Tables of the other families, and families that there are not.
+fn families() {
+    let mut nine = [0u8; 9];
+    let mut twelve = [0u8; 12];
+    let mut all = [0u8; Table::CELLS];
+    family(3, 4, Family::HANKEL, &mut twelve);
+    family(4, 3, Family::HANKEL, &mut twelve);
+    family(8, 8, Family::HANKEL, &mut all);
+    family(3, 3, Family::VANDERMONDE, &mut nine);
+    family(3, 3, 4, &mut nine);
+    family(0, 3, 0, &mut nine);
 }
 
 // A table of two rows that has no growing differences, with both parities at hand.
@@ -316,6 +349,7 @@ fn telling() {
 
 fn main() {
     house_tables();
+    families();
     other_tables();
     numbers();
     blocks();

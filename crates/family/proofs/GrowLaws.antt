@@ -1,18 +1,15 @@
--- Laws of growing differences: step by step is as good as all at once, and the house family has them. Assumes nothing.
-use mathlib.Core.Path.{_≡_, refl, sym, ap, ap₂, _∙_, subst}
+-- Laws of growing differences: step by step is as good as all at once, and the judge's test is that. Assumes nothing.
+use mathlib.Core.Path.{_≡_, refl, sym, ap, _∙_, subst}
 use mathlib.Core.List.{List}
 use Prim.Native.Nat.{ℕ, zero, suc, _+_, _-_, _*_, _/_, _%_, _≤_, _<_}
 use native.Mathlib.Omega.{arith}
-use native.Mathlib.Nat.{mul-add, mul-lt-mul-of-pos-right, mul-add-div-right, mul-add-mod-self-right, mod-eq-of-lt, div-eq-of-lt}
-use lib.ListN.{length}
 use Rattle.bits.specs.Sums.{at}
-use Rattle.table.specs.Limits.{maxK, maxM, cells}
+use Rattle.table.specs.Limits.{maxK, maxM}
 use Rattle.table.specs.Desk.{desk, entry, Grows}
-use Rattle.table.specs.Table.{houseShift, houseCell, laidOut, Holds}
+use Rattle.table.specs.Table.{laidOut, Holds}
 use Rattle.family.specs.Judge.{StepGrows, TableGrows}
-use Rattle.family.specs.Promise.{HouseTable}
 use Rattle.table.specs.declared.Table.{Table}
-use Rattle.table.proofs.TableLaws.{entry-in, laid-in, cell-in}
+use Rattle.table.proofs.TableLaws.{laid-in}
 
 -- the rule for neighbours
 abbrev Steps : ℕ → ℕ → (ℕ → ℕ → ℕ) → Type 0
@@ -87,45 +84,3 @@ module _ {k m : ℕ} {table : List ℕ} {t : Table} (H : Holds k m table t) wher
   judged-grows G =
       let s : Steps k m (laidOut k (t .shifts)) = subst (Steps k m) (sym (H .laid)) (λ a b la lb. G a (a + 1) b (b + 1) (omega arith) la (omega arith) lb) in
       subst (λ x. TableGrows (t .k) x (t .shifts)) (sym (H .m-is)) (subst (λ x. TableGrows x m (t .shifts)) (sym (H .k-is)) (laid-steps s))
-
--- a product grows in each factor
-products-grow : (a a′ b b′ : ℕ) → a < a′ → b < b′ → a * b′ + a′ * b < a′ * b′ + a * b
-products-grow a a′ b b′ la lb =
-    let e = b′ - b in
-    let s : b + e ≡ b′ = omega arith in
-    let p : 0 < e = omega arith in
-    omega (arith, ap (λ x. a * x) s, ap (λ x. a′ * x) s, mul-add a b e, mul-add a′ b e, mul-lt-mul-of-pos-right la p)
-
--- the house table has growing differences
-pub house-grows : (k m : ℕ) (table : List ℕ) → HouseTable k m table → Grows (desk k m 0 table 0)
-house-grows k m table H a a′ b b′ la ma lb kb =
-    let q : (a + 1) * b′ + (a′ + 1) * b < (a′ + 1) * b′ + (a + 1) * b = products-grow (a + 1) (a′ + 1) b b′ (omega arith) lb in
-    let shifted : (x : ℕ) → x + 1 - 1 ≡ x = λ x. omega arith in
-    omega (
-      arith,
-      q,
-      H .cell a b′ (omega arith) kb ∙ ap (λ x. (a + 1) * x) (shifted b′),
-      H .cell a′ b ma (omega arith) ∙ ap (λ x. (a′ + 1) * x) (shifted b),
-      H .cell a′ b′ ma kb ∙ ap (λ x. (a′ + 1) * x) (shifted b′),
-      H .cell a b (omega arith) (omega arith) ∙ ap (λ x. (a + 1) * x) (shifted b),
-    )
-
--- place a·k + b is in row a and column b
-row-of : (k a b : ℕ) → 1 ≤ k → b < k → (a * k + b) / k ≡ a
-row-of k a b p l = mul-add-div-right p a b ∙ omega (arith, div-eq-of-lt l)
-
-column-of : (k a b : ℕ) → b < k → (a * k + b) % k ≡ b
-column-of k a b l = mul-add-mod-self-right a k b ∙ mod-eq-of-lt l
-
--- the sheet's cells, written row by row, are the house table
-pub house-written : (k m : ℕ) (shifts out : List ℕ) → 1 ≤ k → k ≤ maxK → m ≤ maxM → length out ≡ m * k → ((i : ℕ) → i < cells → at shifts i ≡ houseCell i)
-    → ((i : ℕ) → i < length out → at out i ≡ at shifts (i / k * maxK + i % k)) → HouseTable k m out
-house-written k m shifts out kl kh mh size house h = record {
-  size = size;
-  cell = λ a b la lb.
-      let here : at out (a * k + b) ≡ at shifts (a * maxK + b) =
-      h (a * k + b) (omega (arith, cell-in k m a b la lb)) ∙ ap₂ (λ x y. at shifts (x * maxK + y)) (row-of k a b kl lb) (column-of k a b lb) in
-      let r : (a * maxK + b) / maxK ≡ a = omega arith in
-      let c : (a * maxK + b) % maxK ≡ b = omega arith in
-      sym (entry-in k out a b lb) ∙ here ∙ house (a * maxK + b) (omega arith) ∙ ap₂ (λ x y. houseShift (x + 1) (y + 1)) r c;
-}

@@ -1,3 +1,3 @@
 pub mod GrowLaws
-pub mod HouseLaws
+pub mod FamilyTables
 pub mod Tested

@@ -1,4 +1,4 @@
--- Tests that compute whether a table is the house's, and whether differences grow: for examples. Assumes nothing.
+-- Tests that compute whether a table is a family's, and whether differences grow: for examples. Assumes nothing.
 use mathlib.Core.Path.{_≡_, sym, _∙_}
 use mathlib.Core.Logic.{inl, inr}
 use mathlib.Core.Bool.{Bool, true, false, _&&_, and-eq-true-iff, true≢false}
@@ -11,26 +11,26 @@ use borrow.Author.Tests.{ltb-true, eqb-true, lt-ltb}
 use Rattle.bits.specs.Sums.{allB}
 use Rattle.bits.proofs.SumLaws.{all-at, all-of}
 use Rattle.table.specs.Desk.{entry, desk, Grows}
-use Rattle.table.specs.Table.{houseShift}
+use Rattle.table.specs.Family.{familyShift}
 use Rattle.table.specs.Checks.{Flag}
-use Rattle.family.specs.Promise.{HouseTable}
+use Rattle.family.specs.Promise.{FamilyTable}
 use Rattle.family.proofs.GrowLaws.{steps-grow}
 
--- a cell of a table is the house's
-abbrev cellB : ℕ → List ℕ → ℕ → ℕ → Bool
-cellB k table a b = eqb (entry k table a b) (houseShift (a + 1) (b + 1))
+-- a cell of a table is the family's
+abbrev cellB : ℕ → ℕ → ℕ → List ℕ → ℕ → ℕ → Bool
+cellB family k m table a b = eqb (entry k table a b) (familyShift family k m (a + 1) (b + 1))
 
 -- every cell is
-unfoldable pub houseB : ℕ → ℕ → List ℕ → Bool
-houseB k m table = eqb (length table) (m * k) && allB m (λ a. allB k (cellB k table a))
+unfoldable pub familyB : ℕ → ℕ → ℕ → List ℕ → Bool
+familyB family k m table = eqb (length table) (m * k) && allB m (λ a. allB k (cellB family k m table a))
 
-pub house-table : (k m : ℕ) (table : List ℕ) → houseB k m table ≡ true → HouseTable k m table
-unfolding houseB
-house-table k m table e =
+pub family-table : (family k m : ℕ) (table : List ℕ) → familyB family k m table ≡ true → FamilyTable family k m table
+unfolding familyB
+family-table family k m table e =
     let w = and-eq-true-iff (eqb (length table) (m * k)) _ .0 e in
     record {
       size = eqb-true (length table) (m * k) (w .0);
-      cell = λ a b la lb. eqb-true _ _ (all-at k (cellB k table a) (all-at m (λ a. allB k (cellB k table a)) (w .1) a la) b lb);
+      cell = λ a b la lb. eqb-true _ _ (all-at k (cellB family k m table a) (all-at m (λ a. allB k (cellB family k m table a)) (w .1) a la) b lb);
     }
 
 -- neighbours compared

@@ -4,21 +4,25 @@ use mathlib.Core.List.{List, _++_}
 use Prim.Native.Nat.{ℕ, _+_, _*_, _<_}
 use lib.ListN.{length}
 use Rattle.table.specs.Desk.{Grows, desk, entry}
-use Rattle.table.specs.Table.{houseShift}
-use Rattle.table.specs.Checks.{Checks, Answered, Flag, sizeChecks, tableChecks, outputChecks}
+use Rattle.table.specs.Family.{familyShift}
+use Rattle.table.specs.Checks.{Checks, Answered, Flag, sizeChecks, familyNumberChecks, tableChecks, outputChecks}
 
 -- the table of a family: m rows of k entries
-pub record HouseTable (k m : ℕ) (table : List ℕ) : Type 0 where
+pub record FamilyTable (family k m : ℕ) (table : List ℕ) : Type 0 where
   pub size : length table ≡ m * k
-  pub cell : (a b : ℕ) → a < m → b < k → entry k table a b ≡ houseShift (a + 1) (b + 1)
+  pub cell : (a b : ℕ) → a < m → b < k → entry k table a b ≡ familyShift family k m (a + 1) (b + 1)
 
--- 1 5
-abbrev pub familyChecks : ℕ → ℕ → List ℕ → Checks
-familyChecks k m before = sizeChecks k m ++ outputChecks (m * k) before
+-- that of the house family
+abbrev pub HouseTable : ℕ → ℕ → List ℕ → Type 0
+HouseTable k m = FamilyTable 1 k m
 
--- Family table: its number; refused, the output as it was; else the house table.
-abbrev pub FamilyWritten : ℕ → ℕ → List ℕ → ℕ → List ℕ → Type 0
-FamilyWritten k m before number after = Answered (familyChecks k m before) number (after ≡ before) (HouseTable k m after)
+-- 1 19 5
+abbrev pub familyChecks : ℕ → ℕ → ℕ → List ℕ → Checks
+familyChecks k m family before = sizeChecks k m ++ familyNumberChecks family ++ outputChecks (m * k) before
+
+-- Family table: its number; refused, the output as it was; else the table of that family.
+abbrev pub FamilyWritten : ℕ → ℕ → ℕ → List ℕ → ℕ → List ℕ → Type 0
+FamilyWritten k m family before number after = Answered (familyChecks k m family before) number (after ≡ before) (FamilyTable family k m after)
 
 -- 1 3
 abbrev pub judgeChecks : ℕ → ℕ → List ℕ → Checks

@@ -1,13 +1,15 @@
-// Tables of a family: the house table of k sources and m parities; and the judge.
+// The tables of the families, of k sources and m parities; and the judge.
 pub mod judge;
 
 use table::Number;
 use table::Table;
 ghost use mathlib.Core.Path.{_≡_};
+ghost use mathlib.Core.List.{_++_};
 ghost use lib.ListN.{length};
 ghost use Prim.Native.Nat.{ℕ, _+_, _*_, _/_, _%_, _≤_, _<_};
 ghost use Rattle.bits.specs.Sums.{at};
 ghost use Rattle.table.specs.Limits.{maxK, maxM};
+ghost use Rattle.table.specs.Checks.{Checked, sizeChecks, familyNumberChecks};
 ghost use Rattle.family.specs.Promise.{FamilyWritten};
 
 // Writes the shifts of a table row by row, k to a row.
@@ -25,17 +27,34 @@ fn write(t: Table, out: &mut [u8])
     }
 }
 
-// The house table into out: m·k bytes, row by row.
-pub fn family_table(k: u64, m: u64, out: &mut [u8]) -> u64
-    ensures { λ r. ⌜ FamilyWritten k m (now (out .entry)) r (now (out .exit)) ⌝ }
+// 1 and 19.
+fn family_number(k: u64, m: u64, family: u64) -> u64
+    ensures { λ r. ⌜ Checked (sizeChecks k m ++ familyNumberChecks family) r ⌝ }
 {
-    let number = checks::size_number(k, m);
+    let size = checks::size_number(k, m);
+    if size != 0 {
+        return size;
+    }
+    if family < 1 {
+        return Number::FAMILY;
+    }
+    if Table::FAMILIES < family {
+        return Number::FAMILY;
+    }
+    0
+}
+
+// The table of a family into out: m·k bytes, row by row.
+pub fn family_table(k: u64, m: u64, family: u64, out: &mut [u8]) -> u64
+    ensures { λ r. ⌜ FamilyWritten k m family (now (out .entry)) r (now (out .exit)) ⌝ }
+{
+    let number = family_number(k, m, family);
     if number != 0 {
         return number;
     }
     if out.len() as u64 != m * k {
         return Number::OUTPUT;
     }
-    write(Table::house(k, m), out);
+    write(Table::family(k, m, family), out);
     0
 }

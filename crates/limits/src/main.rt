@@ -1,6 +1,7 @@
-// Prints the limits of the shift table's type and the list of numbers as C macros: include/windhawker_limits.h is this
-// program's output.
+// Prints the limits of the shift table's type, the families and the list of numbers as C macros:
+// include/windhawker_limits.h is this program's output.
 use libc::STDOUT_FILENO;
+use table::Family;
 use table::Number;
 use table::Table;
 
@@ -24,6 +25,14 @@ fn print_limits() {
     print_macro(b"MAX_LENGTH", Table::MAX_LENGTH);
     print_macro(b"MAX_SHIFT", Table::MAX_SHIFT as u64);
     print_macro(b"LONGEST", Table::LONGEST as u64);
+    print_macro(b"FAMILIES", Table::FAMILIES);
+}
+
+fn print_families() {
+    print(b"/* The families of shift tables. */\n");
+    print_macro(b"HOUSE", Family::HOUSE);
+    print_macro(b"HANKEL", Family::HANKEL);
+    print_macro(b"VANDERMONDE", Family::VANDERMONDE);
 }
 
 fn print_numbers() {
@@ -47,12 +56,15 @@ fn print_numbers() {
     print_macro(b"ROOM", Number::ROOM);
     print_macro(b"PROGRESS", Number::PROGRESS);
     print_macro(b"LINE", Number::LINE);
+    print_macro(b"FAMILY", Number::FAMILY);
 }
 
 fn main() {
     print(b"/* Printed by the program limits, from the constants of the crate table. */\n\n");
     print(b"#ifndef WINDHAWKER_LIMITS_H\n#define WINDHAWKER_LIMITS_H\n\n");
     print_limits();
+    print(b"\n");
+    print_families();
     print(b"\n");
     print_numbers();
     print(b"\n#endif\n");

@@ -13,12 +13,11 @@ use Rattle.bits.specs.Sums.{at, pick}
 use Rattle.bits.specs.Bits.{Bytes, bitAt, joined}
 use Rattle.bits.proofs.ByteLaws.{part-joined, joined-length}
 use Rattle.table.specs.Desk.{Desk, desk, sourcesBytes, packetBytes, paritiesBytes, survivorsBytes, placeOf, Grows, mark}
-use Rattle.table.specs.Checks.{Checks, Checked, theList, sizeChecks, tableChecks, outputChecks, shapeChecks, inputChecks, markedChecks}
-use Rattle.family.specs.Promise.{familyChecks, Judged, judgeChecks}
-use Rattle.table.proofs.CheckLaws.{numbered-by, checked-once, passed, goes, neither, sized, exactly-long, lengths-exact, rest-decides, flag-up, flag-holds, flag-down, flag-low}
+use Rattle.table.specs.Checks.{Checks, Checked, theList, sizeChecks, familyNumberChecks, tableChecks, outputChecks, shapeChecks, inputChecks, markedChecks}
+use Rattle.family.specs.Promise.{familyChecks, FamilyWritten, Judged, judgeChecks}
+use Rattle.table.proofs.CheckLaws.{numbered-by, checked-once, passed, goes, neither, sized, family-in-range, exactly-long, lengths-exact, rest-decides, flag-up, flag-holds, flag-down, flag-low}
 use Rattle.table.proofs.ListLaws.{listed-by, number-in-order, listed-one-way}
-use Rattle.family.proofs.GrowLaws.{house-grows}
-use Rattle.family.proofs.HouseLaws.{house-low}
+use Rattle.family.proofs.FamilyTables.{family-grows, family-low, hankel-table-largest}
 use Rattle.table.proofs.ShapeLaws.{marked-count}
 use Rattle.table.proofs.PacketLaws.{source-bytes-low}
 use Rattle.code.specs.Code.{parity, sourcesOf, packetOf, packetsOf}
@@ -44,6 +43,7 @@ use Rattle.look.specs.Promise.{lookChecks}
 use Rattle.card.specs.Block.{blockChecks}
 use Rattle.line.specs.Promise.{sheetChecks}
 use Rattle.card.proofs.LoneBlocks.{taken-exactly-lone, taken-begins}
+use Rattle.promises.proofs.OneAnswer.{one-judge}
 use Rattle.promises.specs.Demands
 use Rattle.promises.specs.Demands.{parityIn, written, atHand, everyBit, shapeAndLengths, StandsLower, ComesFrom}
 
@@ -52,7 +52,7 @@ use Rattle.promises.specs.Demands.{parityIn, written, atHand, everyBit, 
 -- D1.2
 pub calls-listed : Demands.CallsListed
 calls-listed = record {
-  family = λ k m before number after x. (x .numbered, refl, listed-by (familyChecks k m before) refl);
+  family = λ k m family before number after x. (x .numbered, refl, listed-by (familyChecks k m family before) refl);
   judge = λ k m table number growing x. (x .numbered, refl, listed-by (judgeChecks k m table) refl);
   packet-length = λ k m l table packet number bytes x. (x .numbered, refl, listed-by (packetLengthChecks k m l table packet) refl);
   survivors-length = λ k m l table marks number bytes x. (x .numbered, refl, listed-by (markedChecks k m l table marks) refl);
@@ -77,7 +77,7 @@ pub one-number : Demands.OneNumber
 one-number = checked-once
 
 pub family-keeps : Demands.FamilyKeeps
-family-keeps k m before number after x = x .refused
+family-keeps k m family before number after x = x .refused
 
 pub encode-all-keeps : Demands.EncodeAllKeeps
 encode-all-keeps k m l table sources before number after x = x .refused
@@ -381,15 +381,31 @@ growing-walk-is-whole k m l table marks count whole progress j x =
     let e = growing-order-is-whole k m l table marks count whole progress j x (f .reached .order) (at progress) (f .reached .run) (f .stuck) in
     (flag-up (f .flagged) (e .0), f .reached .counted ∙ e .1)
 
+module _ (k m family : ℕ) (before table : List ℕ) (w : FamilyWritten k m family before 0 table) where
+  -- the judge says yes of what was written
+  family-judged : Judged k m table 0 1
+  family-judged =
+      let F = w .done refl in
+      let p = passed (sizeChecks k m) (familyNumberChecks family ++ outputChecks (m * k) before) (numbered-by (sizeChecks k m) refl) (w .numbered) in
+      let one-of = family-in-range family (passed (familyNumberChecks family) (outputChecks (m * k) before) (numbered-by (familyNumberChecks family) refl) (p .1) .0) in
+      let low = family-low family k m table (one-of .0) (one-of .1) (sized k m (p .0)) F in
+      record {
+        numbered = goes (sizeChecks k m) (tableChecks k m table) 0 (numbered-by (sizeChecks k m) refl) (p .0) (inr (neither (λ n. n (F .size)) (λ x. omega (arith, low (x .0), x .1)), refl));
+        refused = λ n. absurd (n refl);
+        done = λ _. inl (family-grows family k m table (one-of .0) (one-of .1) F, refl);
+      }
+
 pub family-gets-yes : Demands.FamilyGetsYes
-family-gets-yes k m before table number growing w j =
-    let H = w .done refl in
-    let size = passed (sizeChecks k m) (outputChecks (m * k) before) (numbered-by (sizeChecks k m) refl) (w .numbered) .0 in
-    let low = house-low k m table (sized k m size) H in
-    let taken : Checked (tableChecks k m table) 0 = inr (neither (λ n. n (H .size)) (λ x. omega (arith, low (x .0), x .1)), refl) in
-    let c = goes (sizeChecks k m) (tableChecks k m table) 0 (numbered-by (sizeChecks k m) refl) size taken in
-    let e : number ≡ 0 = checked-once (judgeChecks k m table) number 0 (j .numbered) c in
-    (e, flag-up (j .done e) (house-grows k m table H))
+family-gets-yes k m family before table number growing w j = one-judge k m table j (family-judged k m family before table w)
+
+pub family-order-is-whole : Demands.FamilyOrderIsWhole
+family-order-is-whole k m family before table w l marks accepted o h u s =
+    growing-ended k m l table marks (family-judged k m family before table w) accepted (length o) record { end = h; reached = record { order = o; run = u; counted = refl }; stuck = s }
+
+pub hankel-largest-shift : Demands.HankelLargestShift
+hankel-largest-shift k m before table w =
+    let z = sized k m (passed (sizeChecks k m) (familyNumberChecks 2 ++ outputChecks (m * k) before) (numbered-by (sizeChecks k m) refl) (w .numbered) .0) in
+    hankel-table-largest k m table (z .k-low) (z .m-low) (w .done refl)
 
 -- D3.4
 pub every-order-reads-the-sources : Demands.EveryOrderReadsTheSources

@@ -9,10 +9,12 @@ use lib.ListN.{length}
 use Rattle.bits.specs.Sums.{oneAt, sum, allB, lowest}
 use Rattle.bits.specs.Bits.{bit, bitAt, up, fromBits, bytesOf, joined}
 use Rattle.table.specs.Desk.{desk, sourcesBytes, paritiesBytes, survivorsBytes, entry, most, reach, packetBits, packetBytes, placeOf}
-use Rattle.table.specs.Checks.{inputChecks, outputChecks, sizeChecks, tableChecks, shapeChecks}
+use Rattle.table.specs.Limits.{maxFamily}
+use Rattle.table.specs.Family.{triangle, bowl, hankelShift, familyShift}
+use Rattle.table.specs.Checks.{inputChecks, outputChecks, sizeChecks, familyNumberChecks, tableChecks, shapeChecks}
 use Rattle.table.proofs.CheckLaws.{numbered-by, goes, exactly-long}
-use Rattle.table.proofs.Taken.{lowB, insideB, sizeB, tableB, shapeB, takenB, size-taken, table-taken, shape-taken, taken-checked}
-use Rattle.family.proofs.Tested.{houseB, stepB, growsB, flagOf, house-table, grows-flag}
+use Rattle.table.proofs.Taken.{lowB, insideB, sizeB, tableB, shapeB, takenB, size-taken, family-taken, table-taken, shape-taken, taken-checked}
+use Rattle.family.proofs.Tested.{familyB, stepB, growsB, flagOf, family-table, grows-flag}
 use Rattle.code.specs.Code.{sumOf, sourcesOf, packetOf, packetsOf, paritiesOf}
 use Rattle.walk.specs.Read.{put}
 use Rattle.walk.specs.Promise.{Walked}
@@ -25,7 +27,7 @@ use Rattle.promises.proofs.RebuildAnswers.{bytesB, tidyB, readAlong, Ou
 
 -- what is computed of an example; of a block nothing here
 abbrev Computed : Example → Type 0
-Computed (family k m before table) = (sizeB k m ≡ true) × (length before ≡ m * k) × (houseB k m table ≡ true)
+Computed (family k m which before table) = (sizeB k m ≡ true) × (insideB maxFamily which ≡ true) × (length before ≡ m * k) × (familyB which k m table ≡ true)
 Computed (largest k m table r) = most m (λ c. most k (entry k table c)) ≡ r
 Computed (judge k m table growing) = (sizeB k m ≡ true) × (tableB k m table ≡ true) × (growing ≡ flagOf (growsB k m table))
 Computed (encode k m l table sources before parities) =
@@ -47,11 +49,14 @@ Computed (block bytes before count after) = Met (block bytes before count after)
 -- and that it is enough
 met : (e : Example) → Computed e → Met e
 unfolding reach
-met (family k m before table) c = record {
-  numbered = goes (sizeChecks k m) (outputChecks (m * k) before) 0 (numbered-by (sizeChecks k m) refl) (size-taken k m (c .0)) (exactly-long 5 (m * k) before (c .1));
-  refused = λ n. absurd (n refl);
-  done = λ _. house-table k m table (c .2);
-}
+met (family k m which before table) c =
+    let room = exactly-long 5 (m * k) before (c .2) in
+    let rest = goes (familyNumberChecks which) (outputChecks (m * k) before) 0 (numbered-by (familyNumberChecks which) refl) (family-taken which (c .1)) room in
+    record {
+      numbered = goes (sizeChecks k m) (familyNumberChecks which ++ outputChecks (m * k) before) 0 (numbered-by (sizeChecks k m) refl) (size-taken k m (c .0)) rest;
+      refused = λ n. absurd (n refl);
+      done = λ _. family-table which k m table (c .3);
+    }
 met (largest k m table r) c = λ a. c
 met (judge k m table growing) c = record {
   numbered = goes (sizeChecks k m) (tableChecks k m table) 0 (numbered-by (sizeChecks k m) refl) (size-taken k m (c .0)) (table-taken k m table (c .1));
@@ -78,7 +83,7 @@ met (block bytes before count after) c = c
 
 -- what examples compute with: whether a call is accepted, the walk, the packets, what was read from them
 accepting : Unit {0}
-unfolding takenB shapeB sizeB tableB insideB lowB houseB growsB stepB flagOf entry most
+unfolding takenB shapeB sizeB tableB insideB lowB familyB familyShift hankelShift bowl triangle growsB stepB flagOf entry most
 accepting = tt
 
 walking : Unit {0}
@@ -95,8 +100,13 @@ reading = tt
 
 computed : (n : Name) → Computed (example n)
 unfolding accepting walking coding reading
-computed Name.family-three = (refl, refl, refl)
-computed Name.largest-three = refl
+computed Name.family-house = (refl, refl, refl, refl)
+computed Name.family-hankel-tall = (refl, refl, refl, refl)
+computed Name.family-hankel-wide = (refl, refl, refl, refl)
+computed Name.family-hankel-eight = (refl, refl, refl, refl)
+computed Name.family-vandermonde = (refl, refl, refl, refl)
+computed Name.largest-house = refl
+computed Name.largest-hankel = refl
 computed Name.encode-ones = (refl, refl, refl, refl)
 computed Name.encode-high-bits = (refl, refl, refl, refl)
 computed Name.judge-house = (refl, refl, refl)

@@ -6,15 +6,15 @@ use Rattle.table.specs.Checks.{markedChecks}
 use Rattle.table.proofs.CheckLaws.{flag-once}
 use Rattle.table.proofs.AnswerLaws.{answers-agree, same}
 use Rattle.family.specs.Promise.{FamilyWritten, familyChecks, Judged, judgeChecks}
-use Rattle.family.proofs.HouseLaws.{one-house}
+use Rattle.family.proofs.FamilyTables.{family-once}
 use Rattle.encode.specs.Promise.{EncodedAll, encodeChecks, EncodedOne, encodeOneChecks, PacketMeasured, packetLengthChecks, SurvivorsMeasured}
 
 -- two answers of the family call
-pub one-family : (k m : ℕ) (before : List ℕ) {n n′ : ℕ} {after after′ : List ℕ}
-    → FamilyWritten k m before n after
-    → FamilyWritten k m before n′ after′
+pub one-family : (k m family : ℕ) (before : List ℕ) {n n′ : ℕ} {after after′ : List ℕ}
+    → FamilyWritten k m family before n after
+    → FamilyWritten k m family before n′ after′
     → (n ≡ n′) × (after ≡ after′)
-one-family k m before {n} {n′} {after} {after′} x y = answers-agree (familyChecks k m before) n n′ {P = after ≡ after′} same (one-house k m after after′) x y
+one-family k m family before {n} {n′} {after} {after′} x y = answers-agree (familyChecks k m family before) n n′ {P = after ≡ after′} same (family-once family k m after after′) x y
 
 -- two answers of the judge
 pub one-judge : (k m : ℕ) (table : List ℕ) {n n′ g g′ : ℕ} → Judged k m table n g → Judged k m table n′ g′ → (n ≡ n′) × (g ≡ g′)

@@ -8,11 +8,11 @@ use Rattle.bits.specs.Sums.{at, sum}
 use Rattle.bits.specs.Bits.{bit, bitAt, up, fromBits, bytesOf}
 use Rattle.table.specs.Limits.{noughts}
 use Rattle.table.specs.Desk.{Desk, Grows, desk, entry, most, reach, packetBits, packetBytes, placeOf, survivorsBytes}
-use Rattle.table.specs.Checks.{Checked, shapeChecks, markedChecks, numberChecks, marksChecks, askedChecks, inputChecks, outputChecks}
+use Rattle.table.specs.Checks.{Checked, sizeChecks, familyNumberChecks, shapeChecks, markedChecks, numberChecks, marksChecks, askedChecks, inputChecks, outputChecks}
 use Rattle.table.proofs.CheckLaws.{numbered-by, passed, checked-once, goes, below-by, from-later, inside, exactly-long, asked-goes}
 use Rattle.table.proofs.ShapeLaws.{marked-parts}
-use Rattle.table.proofs.Taken.{lowB, insideB, sizeB, tableB, shapeB, shape-taken}
-use Rattle.family.specs.Promise.{FamilyWritten, Judged}
+use Rattle.table.proofs.Taken.{lowB, insideB, sizeB, tableB, shapeB, size-taken, shape-taken}
+use Rattle.family.specs.Promise.{familyChecks, FamilyWritten, Judged}
 use Rattle.code.specs.Code.{sumOf, sourcesOf, packetOf}
 use Rattle.encode.specs.Stages.{lendChecks}
 use Rattle.encode.specs.Promise.{EncodedAll, EncodedOne, encodeOneChecks, PacketMeasured, SurvivorsMeasured}
@@ -27,20 +27,17 @@ use Rattle.repair.specs.Promise.{Repaired, repairChecks}
 use Rattle.promises.proofs.OneAnswer.{one-family, one-judge, one-encode-all}
 use Rattle.promises.proofs.Demands.{repair-gives-the-packet}
 use Rattle.promises.proofs.Stepping.{last, more, stepping-is-the-walk}
-use Rattle.promises.specs.Examples.{Name, house, seven, eight}
+use Rattle.promises.specs.Examples.{Name, house, house3, hankelTall, seven, eight, nine, twelve}
 use Rattle.promises.proofs.Examples.{example-met}
 
 -- ---- the buffers and packets of the examples
 
--- what two bytes, four and nine held that a call was lent
+-- what two bytes and four held that a call was lent
 abbrev two : List ℕ
 two = 9 ∷ 9 ∷ []
 
 abbrev four : List ℕ
 four = 9 ∷ 9 ∷ 9 ∷ 9 ∷ []
-
-abbrev nine : List ℕ
-nine = 9 ∷ 9 ∷ 9 ∷ 9 ∷ 9 ∷ 9 ∷ 9 ∷ 9 ∷ 9 ∷ []
 
 -- both parities of the sources 01 01; with a one above the last bit of parity 2; and such that no sources encode to them
 abbrev parities : List ℕ
@@ -54,17 +51,51 @@ foreign = 0x03 ∷ 0x00 ∷ 0x05 ∷ 0x01 ∷ []
 
 -- ---- family table
 
+-- the number of a fourth family
+fourth : (before : List ℕ) → Checked (familyChecks 1 1 4 before) 19
+unfolding sizeB insideB
+fourth before = goes (sizeChecks 1 1) (familyNumberChecks 4 ++ outputChecks 1 before) 19 (numbered-by (sizeChecks 1 1) refl) (size-taken 1 1 refl) (inl (inr (omega arith), refl))
+
 -- a family table of noughts
-pub no-family-of-noughts : FamilyWritten 3 3 nine 0 (0 ∷ 0 ∷ 0 ∷ 0 ∷ 0 ∷ 0 ∷ 0 ∷ 0 ∷ 0 ∷ []) → ⊥
+pub no-family-of-noughts : FamilyWritten 3 3 1 nine 0 (0 ∷ 0 ∷ 0 ∷ 0 ∷ 0 ∷ 0 ∷ 0 ∷ 0 ∷ 0 ∷ []) → ⊥
 no-family-of-noughts x =
-    let e = one-family 3 3 nine x (example-met Name.family-three) in
+    let e = one-family 3 3 1 nine x (example-met Name.family-house) in
     omega (arith, ap (λ l. at l 1) (e .1))
 
 -- one cut out of the full sheet by rows of k, where the sheet's have eight
-pub no-family-by-rows-of-k : FamilyWritten 3 3 nine 0 (0 ∷ 1 ∷ 2 ∷ 3 ∷ 4 ∷ 5 ∷ 6 ∷ 7 ∷ 0 ∷ []) → ⊥
+pub no-family-by-rows-of-k : FamilyWritten 3 3 1 nine 0 (0 ∷ 1 ∷ 2 ∷ 3 ∷ 4 ∷ 5 ∷ 6 ∷ 7 ∷ 0 ∷ []) → ⊥
 no-family-by-rows-of-k x =
-    let e = one-family 3 3 nine x (example-met Name.family-three) in
+    let e = one-family 3 3 1 nine x (example-met Name.family-house) in
     omega (arith, ap (λ l. at l 3) (e .1))
+
+-- a Hankel table of four sources and three parities by the rule for m at least k, with (m − k)/2 cut to 0
+pub no-wide-table-by-the-tall-rule : FamilyWritten 4 3 2 twelve 0 (1 ∷ 0 ∷ 0 ∷ 1 ∷ 0 ∷ 0 ∷ 1 ∷ 3 ∷ 0 ∷ 1 ∷ 3 ∷ 6 ∷ []) → ⊥
+no-wide-table-by-the-tall-rule x =
+    let e = one-family 4 3 2 twelve x (example-met Name.family-hankel-wide) in
+    omega (arith, ap (λ l. at l 0) (e .1))
+
+-- one of k and m exchanged that is not turned over its diagonal: the rows of four parities for three
+pub no-wide-table-unturned : FamilyWritten 4 3 2 twelve 0 hankelTall → ⊥
+no-wide-table-unturned x =
+    let e = one-family 4 3 2 twelve x (example-met Name.family-hankel-wide) in
+    omega (arith, ap (λ l. at l 3) (e .1))
+
+-- the house table for the Vandermonde family's
+pub no-house-for-vandermonde : FamilyWritten 3 3 3 nine 0 house3 → ⊥
+no-house-for-vandermonde x =
+    let e = one-family 3 3 3 nine x (example-met Name.family-vandermonde) in
+    omega (arith, ap (λ l. at l 1) (e .1))
+
+-- a family that there is not, taken for another; and 5 for it, where the output is too short as well
+pub no-fourth-family : {after : List ℕ} → FamilyWritten 1 1 4 (9 ∷ []) 0 after → ⊥
+no-fourth-family x = omega (arith, checked-once (familyChecks 1 1 4 (9 ∷ [])) 0 19 (x .numbered) (fourth (9 ∷ [])))
+
+pub no-output-before-family : {after : List ℕ} → FamilyWritten 1 1 4 [] 5 after → ⊥
+no-output-before-family x = omega (arith, checked-once (familyChecks 1 1 4 []) 5 19 (x .numbered) (fourth []))
+
+-- 19 where k is 0
+pub no-family-before-size : {after : List ℕ} → FamilyWritten 0 1 0 [] 19 after → ⊥
+no-family-before-size x = omega (arith, checked-once (familyChecks 0 1 0 []) 19 1 (x .numbered) (inl (inl (inl (omega arith)), refl)))
 
 -- ---- judge
 

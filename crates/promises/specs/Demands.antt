@@ -3,12 +3,12 @@ use mathlib.Core.Path.{_≡_}
 use mathlib.Core.Logic.{_↔_, _≢_, _⊎_}
 use mathlib.Core.List.{List, [], _∷_, _++_}
 use mathlib.Core.Bool.{not}
-use Prim.Native.Nat.{ℕ, _+_, _-_, _*_, _≤_, _<_}
+use Prim.Native.Nat.{ℕ, _+_, _-_, _*_, _/_, _≤_, _<_}
 use lib.Dec.{leb, ltb}
 use lib.ListN.{length, drop, set}
 use Rattle.bits.specs.Sums.{at, count, pick}
 use Rattle.bits.specs.Bits.{Bytes, bitAt, slice, part, joined}
-use Rattle.table.specs.Desk.{Desk, desk, mark, sourceBits, sourceBytes, sourcesBytes, survivorsBytes, packetBits, packetBytes, placeOf}
+use Rattle.table.specs.Desk.{Desk, desk, entry, most, mark, sourceBits, sourceBytes, sourcesBytes, survivorsBytes, packetBits, packetBytes, placeOf}
 use Rattle.table.specs.Checks.{Checks, Checked, theList, InOrder, numbersOf, Listed, Refuses, markedChecks, inputChecks, outputChecks}
 use Rattle.family.specs.Promise.{familyChecks, FamilyWritten, judgeChecks, Judged}
 use Rattle.code.specs.Code.{Bits, parity, sourcesOf, packetOf, survivorsOf, Source, Encodes}
@@ -37,9 +37,9 @@ abbrev pub MadeInOrder : Checks → List ℕ → ℕ → Type 0
 MadeInOrder checks numbers number = Checked checks number × (numbersOf checks ≡ numbers) × Listed checks
 
 pub record CallsListed : Type 0 where
-  pub family : (k m : ℕ) (before : List ℕ) (number : ℕ) (after : List ℕ)
-      → FamilyWritten k m before number after
-      → MadeInOrder (familyChecks k m before) (1 ∷ 5 ∷ []) number
+  pub family : (k m family : ℕ) (before : List ℕ) (number : ℕ) (after : List ℕ)
+      → FamilyWritten k m family before number after
+      → MadeInOrder (familyChecks k m family before) (1 ∷ 19 ∷ 5 ∷ []) number
   pub judge : (k m : ℕ) (table : List ℕ) (number growing : ℕ)
       → Judged k m table number growing
       → MadeInOrder (judgeChecks k m table) (1 ∷ 3 ∷ []) number
@@ -100,8 +100,8 @@ OneNumber = (cs : Checks) (n n′ : ℕ) → Checked cs n → Checked cs n′ �
 -- Each call that is lent an output keeps it.
 abbrev pub FamilyKeeps : Type 0
 FamilyKeeps =
-    (k m : ℕ) (before : List ℕ) (number : ℕ) (after : List ℕ)
-    → FamilyWritten k m before number after
+    (k m family : ℕ) (before : List ℕ) (number : ℕ) (after : List ℕ)
+    → FamilyWritten k m family before number after
     → (number ≡ 0 → ⊥)
     → after ≡ before
 
@@ -376,13 +376,33 @@ GrowingWalkIsWhole =
     → Walked k m l table marks 0 count whole progress
     → (whole ≡ 1) × (count ≡ everyBit k l marks)
 
--- What the family call writes gets the judge's yes, for all k and m.
+-- What the family call writes gets the judge's yes, for all k and m and every family.
 abbrev pub FamilyGetsYes : Type 0
 FamilyGetsYes =
-    (k m : ℕ) (before table : List ℕ) (number growing : ℕ)
-    → FamilyWritten k m before 0 table
+    (k m family : ℕ) (before table : List ℕ) (number growing : ℕ)
+    → FamilyWritten k m family before 0 table
     → Judged k m table number growing
     → (number ≡ 0) × (growing ≡ 1)
+
+-- So with that table every order of steps run to its end finishes every missing source, after all their bits.
+abbrev pub FamilyOrderIsWhole : Type 0
+FamilyOrderIsWhole =
+    (k m family : ℕ) (before table : List ℕ)
+    → FamilyWritten k m family before 0 table
+    → (l marks : ℕ)
+    → Checked (markedChecks k m l table marks) 0
+    → (o : Order) (h : ℕ → ℕ)
+    → let D = desk k m l table marks in
+    Run D (λ c. 0) o h
+    → Stuck D h
+    → Whole D h × (length o ≡ everyBit k l marks)
+
+-- The largest entry of what it writes for the Hankel family is half of (n/2 − 1)·(n/2), where n is k + m and n/2 is rounded down.
+abbrev pub HankelLargestShift : Type 0
+HankelLargestShift =
+    (k m : ℕ) (before table : List ℕ)
+    → FamilyWritten k m 2 before 0 table
+    → most m (λ a. most k (entry k table a)) ≡ ((k + m) / 2 - 1) * ((k + m) / 2) / 2
 
 -- D3.4 If the packets were encoded from sources, every order reads those sources' bits.
 

@@ -2,6 +2,7 @@
 use mathlib.Core.Path.{_≡_}
 use mathlib.Core.List.{List, [], _∷_}
 use Prim.Native.Nat.{ℕ}
+use lib.ListN.{replicate}
 use Rattle.table.specs.Desk.{desk, reach}
 use Rattle.family.specs.Promise.{FamilyWritten, Judged}
 use Rattle.encode.specs.Promise.{EncodedAll}
@@ -11,7 +12,7 @@ use Rattle.card.specs.Promise.{BlockTaken}
 
 -- a call with its input and its answer; where a call lends an output, what it held before
 pub data Example : Type 0 where
-  family : (k m : ℕ) (before table : List ℕ) → Example
+  family : (k m which : ℕ) (before table : List ℕ) → Example
   largest : (k m : ℕ) (table : List ℕ) (r : ℕ) → Example
   judge : (k m : ℕ) (table : List ℕ) (growing : ℕ) → Example
   encode : (k m l : ℕ) (table sources before parities : List ℕ) → Example
@@ -21,7 +22,7 @@ pub data Example : Type 0 where
 
 -- the answer, with number 0 where no other is said, meets the call's promise
 abbrev pub Met : Example → Type 0
-Met (family k m before table) = FamilyWritten k m before 0 table
+Met (family k m which before table) = FamilyWritten k m which before 0 table
 Met (largest k m table r) = (a : ℕ) → reach (desk k m 0 table 0) a ≡ r
 Met (judge k m table growing) = Judged k m table 0 growing
 Met (encode k m l table sources before parities) = EncodedAll k m l table sources before 0 parities
@@ -37,6 +38,29 @@ house = 0 ∷ 1 ∷ 0 ∷ 2 ∷ []
 abbrev pub house3 : List ℕ
 house3 = 0 ∷ 1 ∷ 2 ∷ 0 ∷ 2 ∷ 4 ∷ 0 ∷ 3 ∷ 6 ∷ []
 
+-- of the Hankel family: three sources and four parities, four and three, eight and eight
+abbrev pub hankelTall : List ℕ
+hankelTall = 3 ∷ 1 ∷ 0 ∷ 1 ∷ 0 ∷ 0 ∷ 0 ∷ 0 ∷ 1 ∷ 0 ∷ 1 ∷ 3 ∷ []
+
+abbrev pub hankelWide : List ℕ
+hankelWide = 3 ∷ 1 ∷ 0 ∷ 0 ∷ 1 ∷ 0 ∷ 0 ∷ 1 ∷ 0 ∷ 0 ∷ 1 ∷ 3 ∷ []
+
+abbrev pub hankel8 : List ℕ
+hankel8 =
+    21 ∷ 15 ∷ 10 ∷ 6 ∷ 3 ∷ 1 ∷ 0 ∷ 0
+    ∷ 15 ∷ 10 ∷ 6 ∷ 3 ∷ 1 ∷ 0 ∷ 0 ∷ 1
+    ∷ 10 ∷ 6 ∷ 3 ∷ 1 ∷ 0 ∷ 0 ∷ 1 ∷ 3
+    ∷ 6 ∷ 3 ∷ 1 ∷ 0 ∷ 0 ∷ 1 ∷ 3 ∷ 6
+    ∷ 3 ∷ 1 ∷ 0 ∷ 0 ∷ 1 ∷ 3 ∷ 6 ∷ 10
+    ∷ 1 ∷ 0 ∷ 0 ∷ 1 ∷ 3 ∷ 6 ∷ 10 ∷ 15
+    ∷ 0 ∷ 0 ∷ 1 ∷ 3 ∷ 6 ∷ 10 ∷ 15 ∷ 21
+    ∷ 0 ∷ 1 ∷ 3 ∷ 6 ∷ 10 ∷ 15 ∷ 21 ∷ 28
+    ∷ []
+
+-- of the Vandermonde family: three and three
+abbrev pub vandermonde3 : List ℕ
+vandermonde3 = 0 ∷ 0 ∷ 0 ∷ 0 ∷ 1 ∷ 2 ∷ 0 ∷ 2 ∷ 4 ∷ []
+
 abbrev pub seven : List ℕ
 seven = 0 ∷ 7 ∷ 0 ∷ 7 ∷ []
 
@@ -51,7 +75,8 @@ stuck = 0 ∷ 0 ∷ 5 ∷ 0 ∷ 5 ∷ 0 ∷ 5 ∷ 0 ∷ 0 ∷ []
 
 -- their names: the call, and what is at hand
 pub data Name : Type 0 where
-  family-three largest-three : Name
+  family-house family-hankel-tall family-hankel-wide family-hankel-eight family-vandermonde : Name
+  largest-house largest-hankel : Name
   encode-ones encode-high-bits : Name
   judge-house judge-seven judge-eight : Name
   walk-both-parities walk-one-parity walk-no-parity walk-seven walk-eight walk-stuck : Name
@@ -59,10 +84,22 @@ pub data Name : Type 0 where
   rebuild-one-above rebuild-past-the-row rebuild-no-sources rebuild-seven rebuild-eight rebuild-stuck : Name
   block-two-bytes block-two-bytes-next block-no-bytes : Name
 
+-- nine bytes, and twelve
+abbrev pub nine : List ℕ
+nine = 9 ∷ 9 ∷ 9 ∷ 9 ∷ 9 ∷ 9 ∷ 9 ∷ 9 ∷ 9 ∷ []
+
+abbrev pub twelve : List ℕ
+twelve = 9 ∷ 9 ∷ 9 ∷ nine
+
 -- bytes that a call is lent are 9; where a call has numbers k, m and L these are its first
 abbrev pub example : Name → Example
-example family-three = family 3 3 (9 ∷ 9 ∷ 9 ∷ 9 ∷ 9 ∷ 9 ∷ 9 ∷ 9 ∷ 9 ∷ []) house3
-example largest-three = largest 3 3 house3 6
+example family-house = family 3 3 1 nine house3
+example family-hankel-tall = family 3 4 2 twelve hankelTall
+example family-hankel-wide = family 4 3 2 twelve hankelWide
+example family-hankel-eight = family 8 8 2 (replicate 64 9) hankel8
+example family-vandermonde = family 3 3 3 nine vandermonde3
+example largest-house = largest 3 3 house3 6
+example largest-hankel = largest 8 8 hankel8 28
 example encode-ones = encode 2 2 1 house (0x01 ∷ 0x01 ∷ []) (9 ∷ 9 ∷ 9 ∷ 9 ∷ []) (0x03 ∷ 0x00 ∷ 0x05 ∷ 0x00 ∷ [])
 example encode-high-bits = encode 2 2 1 house (0x80 ∷ 0xC0 ∷ []) (9 ∷ 9 ∷ 9 ∷ 9 ∷ []) (0x00 ∷ 0x01 ∷ 0x80 ∷ 0x03 ∷ [])
 example judge-house = judge 2 2 house 1
@@ -93,8 +130,13 @@ example block-no-bytes = block (0x00 ∷ 0x00 ∷ 0x00 ∷ 0x00 ∷ []) (1 ∷ 2
 -- the one list
 abbrev pub examples : List Name
 examples =
-    family-three
-    ∷ largest-three
+    family-house
+    ∷ family-hankel-tall
+    ∷ family-hankel-wide
+    ∷ family-hankel-eight
+    ∷ family-vandermonde
+    ∷ largest-house
+    ∷ largest-hankel
     ∷ encode-ones
     ∷ encode-high-bits
     ∷ judge-house

@@ -12,12 +12,12 @@ use Rattle.bits.specs.Bits.{bit}
 use Rattle.bits.proofs.BitLaws.{bit-lt, bit-ext}
 use Rattle.text.specs.Text.{space, lineFeed}
 use Rattle.table.specs.Desk.{mark}
-use Rattle.table.specs.Checks.{Checked, sizeChecks, outputChecks}
+use Rattle.table.specs.Checks.{Checked, sizeChecks, familyNumberChecks, outputChecks}
 use Rattle.family.specs.Promise.{HouseTable, FamilyWritten, familyChecks}
-use Rattle.table.proofs.CheckLaws.{numbered-by, checked-once, goes}
+use Rattle.table.proofs.CheckLaws.{numbered-by, checked-once, goes, inside}
 use Rattle.walk.specs.Promise.{Walked}
 use Rattle.walk.proofs.OneAnswer.{one-walk}
-use Rattle.family.proofs.HouseLaws.{one-house}
+use Rattle.family.proofs.FamilyTables.{family-once}
 use Rattle.choices.specs.Promise.{Holding}
 use Rattle.choices.proofs.Successors.{held-take}
 use Rattle.sheet.specs.Printing.{choiceText}
@@ -25,10 +25,12 @@ use Rattle.sheet.specs.Steps.{Marked, WalkOf}
 use Rattle.sheet.specs.Promise.{RowOf, RowPrinted}
 use Rattle.sheet.proofs.Writings.{printed-fits}
 
--- where the size is right and the room exact, the family call writes the house table
-pub house-written : (k m : ℕ) (before after : List ℕ) {number : ℕ} → Checked (sizeChecks k m) 0 → length before ≡ m * k → FamilyWritten k m before number after → HouseTable k m after
+-- where the size is right and the room exact, the family call writes the house table for family 1
+pub house-written : (k m : ℕ) (before after : List ℕ) {number : ℕ} → Checked (sizeChecks k m) 0 → length before ≡ m * k → FamilyWritten k m 1 before number after → HouseTable k m after
 house-written k m before after {number} c l f =
-    f .done (checked-once (familyChecks k m before) number 0 (f .numbered) (goes (sizeChecks k m) (outputChecks (m * k) before) 0 (numbered-by (sizeChecks k m) refl) c (inr (λ n. n l, refl))))
+    let size = sizeChecks k m in
+    let rest = familyNumberChecks 1 ++ outputChecks (m * k) before in
+    f .done (checked-once (familyChecks k m 1 before) number 0 (f .numbered) (goes size rest 0 (numbered-by size refl) c (inr (inside (omega arith) (omega arith), inr (λ n. n l, refl)))))
 
 pub one-marks : (ids : List ℕ) (marks marks′ : ℕ) → Marked ids marks → Marked ids marks′ → marks ≡ marks′
 unfolding bit
@@ -43,7 +45,7 @@ one-marks ids marks marks′ h h′ = bit-ext marks marks′ (λ j. go (mark mar
 -- two walks of a choice give the same number and the same count
 pub one-walk-of : (k m l : ℕ) (ids : List ℕ) {n c n′ c′ : ℕ} → WalkOf k m l ids n c → WalkOf k m l ids n′ c′ → (n ≡ n′) × (c ≡ c′)
 one-walk-of k m l ids {n′ = n′} {c′ = c′} x y =
-    let t : y .table ≡ x .table = one-house k m (y .table) (x .table) (y .house) (x .house) in
+    let t : y .table ≡ x .table = family-once 1 k m (y .table) (x .table) (y .house) (x .house) in
     let s : y .marks ≡ x .marks = one-marks ids (y .marks) (x .marks) (y .marked) (x .marked) in
     let one-table = subst (λ u. Walked k m l u (y .marks) n′ c′ (y .whole) (y .progress)) t (y .walked) in
     let both = subst (λ u. Walked k m l (x .table) u n′ c′ (y .whole) (y .progress)) s one-table in

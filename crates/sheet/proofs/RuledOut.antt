@@ -11,7 +11,8 @@ use Rattle.text.specs.Text.{space, lineFeed, Front}
 use Rattle.text.specs.Numerals.{digit, written, numeral}
 use Rattle.table.specs.Desk.{entry}
 use Rattle.table.proofs.Taken.{lowB, insideB, sizeB, tableB, shapeB, takenB, size-taken, taken-checked}
-use Rattle.family.proofs.Tested.{houseB, house-table}
+use Rattle.table.specs.Family.{familyShift}
+use Rattle.family.proofs.Tested.{familyB, family-table}
 use Rattle.walk.specs.Compute.{placedOf, lowerOf, scan, sourceOf, parityOf, fullB, wholeB, walkFrom}
 use Rattle.walk.proofs.Answers.{answerOf, answer-meets}
 use Rattle.choices.specs.Choices.{Rising, padded}
@@ -67,7 +68,7 @@ no-row-of-no-choice n (inr x) = n (x .1, x .2)
 
 -- the line of the choice 1,4,5 at 3 2 1, of which is computed that it is taken, its walk and its text
 accepting : Unit {0}
-unfolding takenB shapeB sizeB tableB insideB lowB houseB entry
+unfolding takenB shapeB sizeB tableB insideB lowB familyB familyShift entry
 accepting = tt
 
 walking : Unit {0}
@@ -90,7 +91,7 @@ walked =
     let house : List ℕ = 0 ∷ 1 ∷ 2 ∷ 0 ∷ 2 ∷ 4 ∷ [] in
     record {
       table = house;
-      house = house-table 3 2 house refl;
+      house = family-table 1 3 2 house refl;
       marks = 25;
       marked = marked;
       whole = 1;

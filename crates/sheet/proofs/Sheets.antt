@@ -5,17 +5,14 @@ use mathlib.Core.Bool.{cond}
 use mathlib.Core.List.{List, [], _∷_, _++_, append-nil, append-assoc}
 use Prim.Native.Nat.{ℕ, suc, _+_, _-_, _*_, _/_, _%_, _≤_, _<_}
 use native.Mathlib.Omega.{arith}
-use native.Mathlib.Nat.{mul-le-mul}
-use native.Mathlib.Decide.{decLt}
-use lib.ListN.{length, take, List·getD-eq-default}
+use lib.ListN.{length, take}
 use lib.Seq.{take-at}
 use Rattle.bits.specs.Sums.{at, count}
 use Rattle.bits.proofs.SumLaws.{sum-same}
-use Rattle.table.specs.Limits.{maxK, maxM, maxLength, maxShift, noughts}
+use Rattle.table.specs.Limits.{maxLength, noughts}
 use Rattle.table.specs.Desk.{mark}
 use Rattle.table.specs.Checks.{Checked, Outside, MarkAbove, sizeChecks, lengthChecks, tableChecks, shapeChecks, marksChecks, markedChecks}
-use Rattle.family.specs.Promise.{HouseTable}
-use Rattle.table.proofs.CheckLaws.{numbered-by, Sized, sized, checked-once, goes, passed, neither}
+use Rattle.table.proofs.CheckLaws.{numbered-by, sized, checked-once, goes, passed, neither}
 use Rattle.choices.specs.Choices.{Before, Choice, First, Next}
 use Rattle.choices.specs.Promise.{Holding, Begins, OrNoughts}
 use Rattle.choices.proofs.Successors.{one-held, held-not-noughts, last-where-none-follows, begins-run, one-least}
@@ -27,7 +24,7 @@ use Rattle.sheet.specs.Promise.{Printed, NoRow, RowPrinted}
 use Rattle.sheet.specs.Sheet.{Row, Lines, last, more, Output, refused, printed, Pieces, none, piece}
 use Rattle.sheet.proofs.Marking.{among-high, count-among}
 use Rattle.sheet.proofs.Rows.{one-walk-of}
-use Rattle.family.proofs.HouseLaws.{house-low}
+use Rattle.family.proofs.FamilyTables.{family-low}
 
 -- the marks of a choice pass
 marks-pass : (k m : ℕ) (ids : List ℕ) (marks : ℕ) → Choice k (k + m) ids → Marked ids marks → Checked (marksChecks k m marks) 0
@@ -44,7 +41,7 @@ module _ (k m l : ℕ) (size : Checked (sizeChecks k m) 0) (len : Checked (lengt
   -- the walk of a choice is not refused
   pub walk-not-refused : (ids : List ℕ) (number count : ℕ) → Choice k (k + m) ids → WalkOf k m l ids number count → number ≡ 0
   walk-not-refused ids number count c w =
-      let low = house-low k m (w .table) (sized k m size) (w .house) in
+      let low = family-low 1 k m (w .table) (omega arith) (omega arith) (sized k m size) (w .house) in
       let t : Checked (tableChecks k m (w .table)) 0 = inr (neither (λ n. n (w .house .size)) (λ x. omega (arith, low (x .0), x .1)), refl) in
       let front = sizeChecks k m ++ lengthChecks l in
       let fits = goes (sizeChecks k m) (lengthChecks l) 0 (numbered-by (sizeChecks k m) refl) size len in

@@ -1,4 +1,5 @@
 // The count of steps of a choice, as the walk gives it.
+use table::Family;
 use table::Table;
 use walk::WalkAnswer;
 ghost use mathlib.Core.Path.{_≡_};
@@ -30,7 +31,7 @@ fn with_house(k: u64, m: u64, l: u64, marks: u64, shifts: &mut [u8]) -> WalkAnsw
     requires { ⌜ Checked (sizeChecks k m) 0 × (length (now shifts) ≡ m * k) ⌝ }
     ensures { λ r. ⌜ HouseTable k m (now (shifts .exit)) × Walked k m l (now (shifts .exit)) marks (r .number) (r .count) (r .whole) (r .progress) ⌝ }
 {
-    family::family_table(k, m, shifts);
+    family::family_table(k, m, Family::HOUSE, shifts);
     walk::walk(k, m, l, shifts, marks)
 }
 

@@ -10,9 +10,10 @@ use Rattle.bits.specs.Sums.{at, count}
 use mathlib.Core.Bool.{Bool, true, _&&_, and-eq-true-iff}
 use lib.Dec.{ltb}
 use borrow.Author.Tests.{ltb-true}
-use Rattle.table.specs.Limits.{maxK, maxM, maxLength, maxShift}
+use Rattle.table.specs.Limits.{maxK, maxM, maxLength, maxShift, maxFamily}
 use Rattle.table.specs.Desk.{mark}
-use Rattle.table.specs.Checks.{Checks, Checked, Flag, Outside, asked, marksChecks, sizeChecks, lengthChecks, tableChecks, numberChecks, askedChecks, inputChecks, outputChecks}
+use Rattle.table.specs.Checks.{Checks, Checked, Flag, Outside, asked, marksChecks, sizeChecks, familyNumberChecks, lengthChecks, tableChecks}
+use Rattle.table.specs.Checks.{numberChecks, askedChecks, inputChecks, outputChecks}
 
 -- two numbers that a list of checks gives are the same
 pub checked-once : (cs : Checks) (n n′ : ℕ) → Checked cs n → Checked cs n′ → n ≡ n′
@@ -145,6 +146,9 @@ sized k m c =
     let x = not-outside maxK k (λ o. alone (omega arith) c (inl o)) in
     let y = not-outside maxM m (λ o. alone (omega arith) c (inr o)) in
     record { k-low = x .0; k-high = x .1; m-low = y .0; m-high = y .1 }
+
+pub family-in-range : (family : ℕ) → Checked (familyNumberChecks family) 0 → (1 ≤ family) × (family ≤ maxFamily)
+family-in-range family c = not-outside maxFamily family (alone (omega arith) c)
 
 pub lengthed : (l : ℕ) → Checked (lengthChecks l) 0 → (1 ≤ l) × (l ≤ maxLength)
 lengthed l c = not-outside maxLength l (alone (omega arith) c)

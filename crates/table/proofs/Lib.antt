@@ -3,6 +3,7 @@ pub mod ListLaws
 pub mod AnswerLaws
 pub mod MarkLaws
 pub mod TableLaws
+pub mod FamilyLaws
 pub mod Tabulated
 pub mod ShapeLaws
 pub mod PacketLaws

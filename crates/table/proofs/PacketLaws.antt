@@ -43,6 +43,13 @@ unfolding most
 most-below zero f z h = omega arith
 most-below (suc n) f z h = larger-below (most n f) (f n) z (most-below n f z (λ i l. h i (omega arith))) (h n (omega arith))
 
+pub most-same : (n : ℕ) (f g : ℕ → ℕ) → ((i : ℕ) → i < n → f i ≡ g i) → most n f ≡ most n g
+most-same n f g h = omega (
+  arith,
+  most-below n f (most n g) (λ i l. omega (arith, h i l, most-above n g i l)),
+  most-below n g (most n f) (λ i l. omega (arith, h i l, most-above n f i l)),
+)
+
 pub most-none : (f : ℕ → ℕ) → 0 ≡ most 0 f
 unfolding most
 most-none f = refl

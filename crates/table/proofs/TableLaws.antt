@@ -10,7 +10,9 @@ use native.Mathlib.Decide.{decLt, decLe}
 use lib.Dec.{ltb}
 use borrow.Author.Tests.{lt-ltb, le-ltb, ltb-true, ltb-false}
 use Rattle.bits.specs.Bits.{Tells}
-use lib.ListN.{length, replicate, List·getD-eq-default}
+use lib.ListN.{length, replicate, set, List·getD-eq-default}
+use lib.Seq.{getD-set-same, getD-set-other}
+use borrow.Author.Count.{below-more}
 use Rattle.bits.specs.Sums.{at}
 use Rattle.table.specs.Limits.{maxK, maxM, maxShift, cells}
 use Rattle.table.specs.Desk.{entry, mark, sourceBits}
@@ -25,6 +27,11 @@ pub noughts-at : (n i : ℕ) → at (replicate n 0) i ≡ 0
 noughts-at zero i = refl
 noughts-at (suc n) zero = refl
 noughts-at (suc n) (suc i) = noughts-at n i
+
+-- values that are f's below place i are so below i + 1 once f's stands at place i
+pub filled-more : (f : ℕ → ℕ) (xs : List ℕ) (i v : ℕ) → i < length xs → ((j : ℕ) → j < i → at xs j ≡ f j) → v ≡ f i → (j : ℕ) → j < i + 1 → at (set xs i v) j ≡ f j
+filled-more f xs i v l below here =
+    below-more (λ j. at (set xs i v) j ≡ f j) i (λ j q. getD-set-other xs i j v 0 (omega arith) ∙ below j q) (getD-set-same xs i v 0 l ∙ here)
 
 -- what holds of the entries up to the end holds of all
 pub low-all : (xs : List ℕ) (i : ℕ) → length xs ≤ i → ((j : ℕ) → j < i → at xs j ≤ maxShift) → (j : ℕ) → at xs j ≤ maxShift

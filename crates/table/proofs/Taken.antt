@@ -10,9 +10,9 @@ use lib.Dec.{eqb, ltb, leb}
 use lib.ListN.{length}
 use borrow.Author.Tests.{ltb-true, leb-true, eqb-true}
 use Rattle.bits.specs.Sums.{at, count}
-use Rattle.table.specs.Limits.{maxK, maxM, maxLength, maxShift}
+use Rattle.table.specs.Limits.{maxK, maxM, maxLength, maxShift, maxFamily}
 use Rattle.table.specs.Desk.{mark}
-use Rattle.table.specs.Checks.{Checked, Outside, sizeChecks, lengthChecks, tableChecks, marksChecks, shapeChecks, markedChecks}
+use Rattle.table.specs.Checks.{Checked, Outside, sizeChecks, familyNumberChecks, lengthChecks, tableChecks, marksChecks, shapeChecks, markedChecks}
 use Rattle.table.proofs.CheckLaws.{numbered-by, goes, neither, inside}
 use Rattle.table.proofs.MarkLaws.{no-mark-above}
 
@@ -51,6 +51,9 @@ unfolding insideB
 inside-not most n e =
     let w = both (leb 1 n) (leb n most) e in
     inside (leb-true 1 n (w .0)) (leb-true n most (w .1))
+
+pub family-taken : (family : ℕ) → insideB maxFamily family ≡ true → Checked (familyNumberChecks family) 0
+family-taken family e = inr (inside-not maxFamily family e, refl)
 
 pub size-taken : (k m : ℕ) → sizeB k m ≡ true → Checked (sizeChecks k m) 0
 unfolding sizeB

@@ -6,7 +6,7 @@ use mathlib.Core.List.{List, [], _∷_, _++_}
 use Prim.Native.Nat.{ℕ, _+_, _*_, _≤_, _<_}
 use lib.ListN.{length}
 use Rattle.bits.specs.Sums.{at, count}
-use Rattle.table.specs.Limits.{maxK, maxM, maxLength, maxShift}
+use Rattle.table.specs.Limits.{maxK, maxM, maxLength, maxShift, maxFamily}
 use Rattle.table.specs.Desk.{mark, sourceBits}
 
 abbrev pub Checks : Type 1
@@ -19,7 +19,7 @@ Checked (c ∷ cs) n = (c .1 × (n ≡ c .0)) ⊎ ((c .1 → ⊥) × Checked cs 
 
 -- The list, in order of checking: first the class sheet's own number, then those of the code, then those of a block. A call makes the checks that it has the input for.
 abbrev pub theList : List ℕ
-theList = 18 ∷ 1 ∷ 2 ∷ 3 ∷ 6 ∷ 7 ∷ 17 ∷ 4 ∷ 5 ∷ 8 ∷ 9 ∷ 10 ∷ 11 ∷ 12 ∷ 13 ∷ 14 ∷ 15 ∷ 16 ∷ []
+theList = 18 ∷ 1 ∷ 19 ∷ 2 ∷ 3 ∷ 6 ∷ 7 ∷ 17 ∷ 4 ∷ 5 ∷ 8 ∷ 9 ∷ 10 ∷ 11 ∷ 12 ∷ 13 ∷ 14 ∷ 15 ∷ 16 ∷ []
 
 -- numbers that are part of a list, in its order; the same may stand more than once, one right after the other
 abbrev pub InOrder : List ℕ → List ℕ → Type 0
@@ -58,6 +58,10 @@ Outside most n = (n < 1) ⊎ (most < n)
 -- 1: k or m is 0 or above its limit
 abbrev pub sizeChecks : ℕ → ℕ → Checks
 sizeChecks k m = (1, Outside maxK k ⊎ Outside maxM m) ∷ []
+
+-- 19: the family is none of those that there are
+abbrev pub familyNumberChecks : ℕ → Checks
+familyNumberChecks family = (19, Outside maxFamily family) ∷ []
 
 -- 2: the length is 0 or above its limit
 abbrev pub lengthChecks : ℕ → Checks

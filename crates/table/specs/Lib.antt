@@ -1,4 +1,5 @@
 pub mod Limits
 pub mod Desk
+pub mod Family
 pub mod Table
 pub mod Checks

@@ -18,6 +18,10 @@ maxLength = 56
 abbrev pub maxShift : ℕ
 maxShift = 64
 
+-- the families of shift tables are 1 to this
+abbrev pub maxFamily : ℕ
+maxFamily = 3
+
 -- the cells of the full sheet
 abbrev pub cells : ℕ
 cells = maxM * maxK
@@ -44,8 +48,9 @@ longest = bytesFor (maxBits + maxShift)
 abbrev pub noughts : List ℕ
 noughts = replicate maxK 0
 
-pub record Limited (sources parities length shift : ℕ) : Type 0 where
+pub record Limited (sources parities length shift families : ℕ) : Type 0 where
   pub sources-are : sources ≡ maxK
   pub parities-are : parities ≡ maxM
   pub length-is : length ≡ maxLength
   pub shift-is : shift ≡ maxShift
+  pub families-are : families ≡ maxFamily

@@ -2,22 +2,23 @@
 use mathlib.Core.Path.{_≡_}
 use mathlib.Core.Bool.{Bool, true, false, cond, not, _&&_}
 use mathlib.Core.List.{List}
-use Prim.Native.Nat.{ℕ, _+_, _-_, _*_, _/_, _%_, _^_, _≤_, _<_}
+use Prim.Native.Nat.{ℕ, _+_, _*_, _/_, _%_, _^_, _≤_, _<_}
 use lib.Dec.{ltb}
 use lib.ListN.{length}
 use Rattle.bits.specs.Sums.{at}
-use Rattle.table.specs.Limits.{maxK, maxM, maxLength, maxShift}
+use Rattle.table.specs.Limits.{maxK, maxM, maxLength, maxShift, cells}
 use Rattle.table.specs.Desk.{Desk, entry, mark, sourceBits, sourceBytes, survivorsBytes}
+use Rattle.table.specs.Family.{houseShift, familyShift}
 use Rattle.table.specs.declared.Shape.{Shape}
 use Rattle.table.specs.declared.Table.{Table}
-
--- the house family: parity a and source b, both from 1, have the shift a·(b − 1)
-abbrev pub houseShift : ℕ → ℕ → ℕ
-houseShift a b = a * (b - 1)
 
 -- cell i of the full sheet, eight to a row
 abbrev pub houseCell : ℕ → ℕ
 houseCell i = houseShift (i / maxK + 1) (i % maxK + 1)
+
+-- cell i of a family's table, laid out as the full sheet is
+abbrev pub familyCell : ℕ → ℕ → ℕ → ℕ → ℕ
+familyCell family k m i = familyShift family k m (i / maxK + 1) (i % maxK + 1)
 
 -- the shift in row a and column b of shifts laid out as the full sheet is, eight to a row, of which k columns count
 unfoldable pub laidOut : ℕ → List ℕ → ℕ → ℕ → ℕ
@@ -64,6 +65,12 @@ pub record Holds (k m : ℕ) (table : List ℕ) (t : Table) : Type 0 where
   pub m-is : t .m ≡ m
   pub laid : laidOut k (t .shifts) ≡ entry k table
   pub low : (i : ℕ) → at (t .shifts) i ≤ maxShift
+
+-- t is a family's table: k columns, m rows, its shifts laid out eight to a row
+pub record OfFamily (family k m : ℕ) (t : Table) : Type 0 where
+  pub k-is : t .k ≡ k
+  pub m-is : t .m ≡ m
+  pub cells-are : (i : ℕ) → i < cells → at (t .shifts) i ≡ familyCell family k m i
 
 -- r is the first packet from i on, below n, whose mark is v; or n where there is none
 pub record NextMark (v : Bool) (marks i n r : ℕ) : Type 0 where

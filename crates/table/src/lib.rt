@@ -1,4 +1,5 @@
-// The shift table, the shape that all calls share, and the list of numbers.
+// The shift table and its families, the shape that all calls share, and the list of numbers.
+mod families;
 pub mod packets;
 
 ghost use mathlib.Core.Path.{_≡_};
@@ -6,9 +7,9 @@ ghost use mathlib.Core.List.{_++_};
 ghost use lib.ListN.{length};
 ghost use Prim.Native.Nat.{ℕ, _*_, _/_, _%_, _≤_, _<_};
 ghost use Rattle.bits.specs.Sums.{at};
-ghost use Rattle.table.specs.Limits.{Limited, maxK, maxM, maxLength, maxShift, cells};
+ghost use Rattle.table.specs.Limits.{Limited, maxK, maxM, maxLength, maxShift, maxFamily, cells};
 ghost use Rattle.table.specs.Desk.{entry, mark, sourceBits, sourceBytes};
-ghost use Rattle.table.specs.Table.{Within, Holds, houseCell, laidOut};
+ghost use Rattle.table.specs.Table.{Within, Holds, OfFamily, houseCell, laidOut};
 ghost use Rattle.table.specs.Checks.{Checked, sizeChecks, tableChecks};
 
 // A shift table: k columns and m rows, its shifts laid out eight to a row as in the full sheet.
@@ -86,6 +87,23 @@ impl Number {
 
     // the class sheet's input is not exactly one line of its form
     pub const LINE: u64 = 18;
+
+    // the family is not one of those that there are
+    pub const FAMILY: u64 = 19;
+}
+
+// The families of shift tables, one name each.
+pub struct Family {}
+
+impl Family {
+    // the house family
+    pub const HOUSE: u64 = 1;
+
+    // the Hankel family (Gong and Sung 2017)
+    pub const HANKEL: u64 = 2;
+
+    // the Vandermonde family (Gong and Sung 2017)
+    pub const VANDERMONDE: u64 = 3;
 }
 
 // The limits, for the proof that the definitions state the same.
@@ -94,6 +112,7 @@ pub struct Limits {
     pub parities: u64,
     pub length: u64,
     pub shift: u8,
+    pub families: u64,
 }
 
 impl Table {
@@ -104,6 +123,9 @@ impl Table {
     pub const MAX_LENGTH: u64 = 56;
 
     pub const MAX_SHIFT: u8 = 64;
+
+    // The families are 1 to this.
+    pub const FAMILIES: u64 = 3;
 
     // The sources, as the length of an array of progress numbers.
     pub const SOURCES: usize = Table::MAX_K as usize;
@@ -189,13 +211,14 @@ impl Table {
 
     // The limits that the definitions state are those of the code.
     pub fn limits() -> Limits
-        ensures { λ r. ⌜ Limited (r .sources) (r .parities) (r .length) (r .shift) ⌝ }
+        ensures { λ r. ⌜ Limited (r .sources) (r .parities) (r .length) (r .shift) (r .families) ⌝ }
     {
         Limits {
             sources: Table::MAX_K,
             parities: Table::MAX_M,
             length: Table::MAX_LENGTH,
             shift: Table::MAX_SHIFT,
+            families: Table::FAMILIES,
         }
     }
 
@@ -222,6 +245,37 @@ impl Table {
             m: m as usize,
             shifts: Table::HOUSE,
         }
+    }
+
+    // The Hankel table of k sources and m parities.
+    pub fn hankel(k: u64, m: u64) -> Table
+        requires { ⌜ (k ≤ maxK) × (m ≤ maxM) ⌝ }
+        ensures { λ r. ⌜ OfFamily 2 k m r ⌝ }
+    {
+        families::filled(k, m, Family::HANKEL)
+    }
+
+    // The Vandermonde table of k sources and m parities.
+    pub fn vandermonde(k: u64, m: u64) -> Table
+        requires { ⌜ (k ≤ maxK) × (m ≤ maxM) ⌝ }
+        ensures { λ r. ⌜ OfFamily 3 k m r ⌝ }
+    {
+        families::filled(k, m, Family::VANDERMONDE)
+    }
+
+    // The table of a family, of k sources and m parities.
+    pub fn family(k: u64, m: u64, family: u64) -> Table
+        requires { ⌜ (k ≤ maxK) × (m ≤ maxM) ⌝ }
+        requires { ⌜ (1 ≤ family) × (family ≤ maxFamily) ⌝ }
+        ensures { λ r. ⌜ OfFamily family k m r ⌝ }
+    {
+        if family == Family::HOUSE {
+            return Table::house(k, m);
+        }
+        if family == Family::HANKEL {
+            return Table::hankel(k, m);
+        }
+        Table::vandermonde(k, m)
     }
 
     // A table that stands where there is none.

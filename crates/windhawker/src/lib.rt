@@ -8,12 +8,12 @@ ghost use Rattle.repair.specs.Promise.{Repaired};
 ghost use Rattle.look.specs.Promise.{LookedAt};
 ghost use Rattle.card.specs.Promise.{BlockTaken};
 
-// The house table of k sources and m parities.
+// The table of a family, of k sources and m parities.
 #[no_mangle]
-pub extern "C" fn whx_family_table(k: u64, m: u64, out: &mut [u8]) -> u64
-    ensures { λ r. ⌜ FamilyWritten k m (now (out .entry)) r (now (out .exit)) ⌝ }
+pub extern "C" fn whx_family_table(k: u64, m: u64, family: u64, out: &mut [u8]) -> u64
+    ensures { λ r. ⌜ FamilyWritten k m family (now (out .entry)) r (now (out .exit)) ⌝ }
 {
-    family::family_table(k, m, out)
+    family::family_table(k, m, family, out)
 }
 
 // Whether differences grow down the table.

@@ -1,12 +1,11 @@
 -- Byte i is the shift in row i div k and column i mod k. Assumes nothing.
 use Prim.Native.Nat.{ℕ, _+_, _*_, _/_, _%_, _≤_, _<_, _-_}
-use mathlib.Core.Path.{_≡_, refl, _∙_}
+use mathlib.Core.Path.{_≡_, refl}
 use lib.ListN.{length, length-set}
-use lib.Seq.{getD-set-same, getD-set-other}
-use borrow.Author.Count.{below-none, below-more}
+use borrow.Author.Count.{below-none}
 use Rattle.bits.specs.Sums.{at}
 use Rattle.table.specs.Limits.{maxK}
-use Rattle.table.proofs.TableLaws.{row-in}
+use Rattle.table.proofs.TableLaws.{row-in, filled-more}
 use native.Mathlib.Omega.{arith}
 use borrow.Author.Needs.{needs}
 use Rattle.family.proofs.write.Statement.{statement}
@@ -59,7 +58,7 @@ loop-again c =
     let v = at (l .before .before .args .t .shifts) (i / l .before .before .args .t .k * maxK + i % l .before .before .args .t .k) in (
       omega arith,
       simp length-set (l .loop .inv .1),
-      below-more _ i (λ j q. getD-set-other out i j v 0 (omega arith) ∙ l .loop .inv .2 j q) (getD-set-same out i v 0 (omega arith)),
+      filled-more _ out i v (omega arith) (l .loop .inv .2) refl,
     )
 
 same-length : tie.Need-same-length Inv-loop μ-loop

@@ -3,10 +3,10 @@ use Prim.Native.Nat.{ℕ, _*_, _/_, _%_, _≤_, _<_, _-_}
 use mathlib.Core.Path.{_≡_, _∙_}
 use lib.ListN.{length, length-set}
 use Rattle.bits.proofs.BitLaws.{lt-or-ge, getD-zeros}
-use Rattle.table.proofs.TableLaws.{entry-below}
+use Rattle.table.proofs.TableLaws.{entry-below, filled-more}
 use mathlib.Core.Logic.{⊎-elim}
-use lib.Seq.{getD-set-same, getD-set-other}
-use borrow.Author.Count.{below-none, below-more}
+use lib.Seq.{getD-set-other}
+use borrow.Author.Count.{below-none}
 use Rattle.bits.specs.Sums.{at}
 use Rattle.table.specs.Desk.{entry}
 use Rattle.table.specs.Limits.{maxK, cells}
@@ -47,9 +47,7 @@ loop-again c =
     let s = at-loop .loop .shifts in (
       omega arith,
       simp length-set (at-loop .loop .inv .1),
-      below-more _ i
-          (λ j l. getD-set-other s i j (c .cell .result) 0 (omega arith) ∙ at-loop .loop .inv .2 j l)
-          (getD-set-same s i (c .cell .result) 0 (omega arith) ∙ c .cell .ensures),
+      filled-more _ s i (c .cell .result) (omega arith) (at-loop .loop .inv .2) (c .cell .ensures),
       λ j l. getD-set-other s i j (c .cell .result) 0 (omega arith) ∙ at-loop .loop .inv .3 j (omega arith),
     )
 

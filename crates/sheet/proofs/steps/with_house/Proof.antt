@@ -17,7 +17,7 @@ returns : tie.Need-returns
 returns c =
     let s = c .before .before .before .before .before .before .before in
     let f = c .before .before .before .before .family-table in
-    (house-written (s .args .k) (s .args .m) (s .args .shifts .now) (f .last .1 .1 .0) (s .pre .0) (s .pre .1) (f .ensures), c .walk .ensures)
+    (house-written (s .args .k) (s .args .m) (s .args .shifts .now) (f .last .1 .1 .1 .0) (s .pre .0) (s .pre .1) (f .ensures), c .walk .ensures)
 
 pub with-house-spec : {M : Type 1} → statement M
 with-house-spec = tie.close (tie.spec family-table-requires walk-requires same-length returns)
