@@ -81,13 +81,15 @@ column-of : (k a b : ℕ) → b < k → (a * k + b) % k ≡ b
 column-of k a b l = mul-add-mod-self-right a k b ∙ mod-eq-of-lt l
 
 -- the cells of a family's table, written row by row, are that table
-pub family-written : (family k m : ℕ) (t : Table) (out : List ℕ) → 1 ≤ k → k ≤ maxK → m ≤ maxM → length out ≡ m * k → OfFamily family k m t
-    → ((i : ℕ) → i < length out → at out i ≡ at (t .shifts) (i / k * maxK + i % k)) → FamilyTable family k m out
-family-written family k m t out kl kh mh size F h = record {
-  size = size;
+pub family-written : (family k m : ℕ) (t : Table) (before out : List ℕ) → 1 ≤ k → k ≤ maxK → m ≤ maxM → length before ≡ m * k → length out ≡ length before → OfFamily family k m t
+    → ((i : ℕ) → i < length before → at out i ≡ at (t .shifts) (i / t .k * maxK + i % t .k)) → FamilyTable family k m out
+family-written family k m t before out kl kh mh room same F h = record {
+  size = same ∙ room;
   cell = λ a b la lb.
-      let here : at out (a * k + b) ≡ at (t .shifts) (a * maxK + b) =
-      h (a * k + b) (omega (arith, cell-in k m a b la lb)) ∙ ap₂ (λ x y. at (t .shifts) (x * maxK + y)) (row-of k a b kl lb) (column-of k a b lb) in
+      let i = a * k + b in
+      let here : at out i ≡ at (t .shifts) (a * maxK + b) =
+      h i (omega (arith, cell-in k m a b la lb)) ∙ ap (λ k. at (t .shifts) (i / k * maxK + i % k)) (F .k-is)
+      ∙ ap₂ (λ x y. at (t .shifts) (x * maxK + y)) (row-of k a b kl lb) (column-of k a b lb) in
       let r : (a * maxK + b) / maxK ≡ a = omega arith in
       let c : (a * maxK + b) % maxK ≡ b = omega arith in
       sym (entry-in k out a b lb) ∙ here ∙ F .cells-are (a * maxK + b) (omega arith) ∙ ap₂ (λ x y. familyShift family k m (x + 1) (y + 1)) r c;

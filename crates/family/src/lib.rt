@@ -1,6 +1,7 @@
 // The tables of the families, of k sources and m parities; and the judge.
 pub mod judge;
 
+use table::Family;
 use table::Number;
 use table::Table;
 ghost use mathlib.Core.Path.{_≡_};
@@ -8,9 +9,9 @@ ghost use mathlib.Core.List.{_++_};
 ghost use lib.ListN.{length};
 ghost use Prim.Native.Nat.{ℕ, _+_, _*_, _/_, _%_, _≤_, _<_};
 ghost use Rattle.bits.specs.Sums.{at};
-ghost use Rattle.table.specs.Limits.{maxK, maxM};
+ghost use Rattle.table.specs.Limits.{maxK, maxM, maxFamily};
 ghost use Rattle.table.specs.Checks.{Checked, sizeChecks, familyNumberChecks};
-ghost use Rattle.family.specs.Promise.{FamilyWritten};
+ghost use Rattle.family.specs.Promise.{FamilyTable, FamilyWritten};
 
 // Writes the shifts of a table row by row, k to a row.
 fn write(t: Table, out: &mut [u8])
@@ -25,6 +26,21 @@ fn write(t: Table, out: &mut [u8])
         out[i] = shifts[i / k * Table::SOURCES + i % k];
         i += 1;
     }
+}
+
+// Writes the table of a family. The house sheet is written by itself: where a constant table and one that was filled
+// meet, the compiler for a small board takes both apart, byte by byte.
+fn write_table(k: u64, m: u64, family: u64, out: &mut [u8])
+    requires { ⌜ (1 ≤ k) × (k ≤ maxK) × (m ≤ maxM) ⌝ }
+    requires { ⌜ (1 ≤ family) × (family ≤ maxFamily) ⌝ }
+    requires { ⌜ length (now out) ≡ m * k ⌝ }
+    ensures { λ _. ⌜ FamilyTable family k m (now (out .exit)) ⌝ }
+{
+    if family == Family::HOUSE {
+        write(Table::house(k, m), out);
+        return;
+    }
+    write(Table::family(k, m, family), out);
 }
 
 // 1 and 19.
@@ -55,6 +71,6 @@ pub fn family_table(k: u64, m: u64, family: u64, out: &mut [u8]) -> u64
     if out.len() as u64 != m * k {
         return Number::OUTPUT;
     }
-    write(Table::family(k, m, family), out);
+    write_table(k, m, family, out);
     0
 }

@@ -1,14 +1,17 @@
 -- Laws of the families' rules: differences grow from neighbour to neighbour, and how large a shift is. Assumes nothing.
 use mathlib.Core.Path.{_≡_, refl, sym, ap, ap₂, _∙_}
 use mathlib.Core.Bool.{Bool, true, false, cond}
-use Prim.Native.Nat.{ℕ, zero, suc, _+_, _-_, _*_, _/_, _≤_, _<_}
+use Prim.Native.Nat.{ℕ, zero, suc, _+_, _-_, _*_, _/_, _%_, _≤_, _<_}
 use native.Mathlib.Omega.{arith}
 use native.Mathlib.Decide.{decLe}
 use lib.Dec.{leb}
+use Rattle.bits.specs.Sums.{at}
 use borrow.Author.Tests.{le-leb, lt-leb}
-use Rattle.table.specs.Limits.{maxK, maxM, maxShift, maxFamily}
+use Rattle.table.specs.Limits.{maxK, maxM, maxShift, maxFamily, cells}
 use Rattle.table.specs.Desk.{most}
 use Rattle.table.specs.Family.{houseShift, triangle, bowl, tallShift, hankelShift, vandermondeShift, familyShift}
+use Rattle.table.specs.Table.{houseCell, OfFamily}
+use Rattle.table.specs.declared.Table.{Table}
 use Rattle.table.proofs.PacketLaws.{most-above, most-below}
 use Rattle.table.proofs.TableLaws.{small-product}
 
@@ -178,6 +181,10 @@ module _ (k m a b : ℕ) where
   pub family-vandermonde : vandermondeShift a b ≡ familyShift 3 k m a b
   unfolding familyShift
   family-vandermonde = refl
+
+-- the sheet is the house family's table
+pub house-of-family : (k m : ℕ) (t : Table) → t .k ≡ k → t .m ≡ m → ((i : ℕ) → i < cells → at (t .shifts) i ≡ houseCell i) → OfFamily 1 k m t
+house-of-family k m t ek em h = record { k-is = ek; m-is = em; cells-are = λ i l. h i l ∙ family-house k m (i / maxK + 1) (i % maxK + 1) }
 
 -- what holds of the three rules holds of every family's
 family-cases : (P : (ℕ → ℕ → ℕ) → Type 0) (family k m : ℕ) → 1 ≤ family → family ≤ maxFamily → P houseShift → P (hankelShift k m) → P vandermondeShift → P (familyShift family k m)

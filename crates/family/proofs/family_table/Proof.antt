@@ -1,15 +1,12 @@
--- What is written is the table of that family, row by row. Assumes nothing.
-use mathlib.Core.Path.{refl, sym, ap, ap₂, _∙_}
+-- The size and the family are looked at, then the room; then the table is written. Assumes nothing.
+use mathlib.Core.Path.{refl}
 use mathlib.Core.Logic.{inl, inr}
 use mathlib.Core.List.{_++_}
-use Prim.Native.Nat.{_+_, _*_, _/_, _%_}
-use Rattle.bits.specs.Sums.{at}
-use Rattle.table.specs.Limits.{maxK}
+use Prim.Native.Nat.{_*_}
 use Rattle.table.specs.Checks.{Checks, Checked, sizeChecks, familyNumberChecks, outputChecks}
 use Rattle.table.proofs.CheckLaws.{numbered-by, zero-checked, passed, Sized, sized, family-in-range}
 use Rattle.table.proofs.AnswerLaws.{answer-stops, answer-goes, answer-refused, answer-done}
 use Rattle.table.proofs.TableLaws.{small-product}
-use Rattle.family.proofs.FamilyTables.{family-written}
 use native.Mathlib.Omega.{arith}
 use borrow.Author.Needs.{needs}
 use Rattle.family.proofs.family_table.Statement.{statement}
@@ -51,14 +48,11 @@ returns-2 c =
     let s = c .before .before .before .before in
     answer-goes (asked s) (room s) 5 (numbered-by (asked s) refl) (passed-asked (c .before)) (answer-refused (room s) 5 5 (inl (c .if2 .taken, refl)) (λ z. omega arith) refl refl)
 
-family-requires : tie.Need-family-requires
-family-requires c κs = let z = within (c .before) in ((z .k-high, z .m-high), family-in-range _ (passed-parts (c .before) .1))
-
-write-requires : tie.Need-write-requires
-write-requires c κs =
-    let z = within (c .before .before .before) in
-    let f = c .before .family .ensures in
-    ((omega (arith, f .k-is, z .k-low), omega (arith, f .k-is, z .k-high), omega (arith, f .m-is, z .m-high)), c .before .before .if2 .left ∙ ap₂ _*_ (sym (f .m-is)) (sym (f .k-is)))
+write-table-requires : tie.Need-write-table-requires
+write-table-requires c κs =
+    let e = c .before in
+    let z = within (e .before) in
+    ((z .k-low, z .k-high, z .m-high), (family-in-range _ (passed-parts (e .before) .1), e .if2 .left))
 
 same-length : tie.Need-same-length
 same-length c = search needs
@@ -66,15 +60,9 @@ same-length c = search needs
 returns-3 : tie.Need-returns-3
 returns-3 c =
     let w = c .before .before in
-    let e = w .before .before .before in
+    let e = w .before .before in
     let s = e .before .before .before .before in
-    let z = within (e .before) in
-    let made = w .before .before .family in
-    let f = made .ensures in
-    let long = w .write .kept .1 .0 in
-    let written = family-written (s .args .family) (s .args .k) (s .args .m) (made .result) (w .write .last .1 .0) (z .k-low) (z .k-high) (z .m-high) (long ∙ e .if2 .left) f
-    (λ i l. w .write .ensures i (omega (arith, long)) ∙ ap (λ k. at (made .result .shifts) (i / k * maxK + i % k)) (f .k-is)) in
-    answer-goes (asked s) (room s) 0 (numbered-by (asked s) refl) (passed-asked (e .before)) (answer-done (room s) 0 (inr ((λ n. n (e .if2 .left)), refl)) refl written)
+    answer-goes (asked s) (room s) 0 (numbered-by (asked s) refl) (passed-asked (e .before)) (answer-done (room s) 0 (inr ((λ n. n (e .if2 .left)), refl)) refl (w .write-table .ensures))
 
 pub family-table-spec : {M : Type 1} → statement M
 family-table-spec =
@@ -84,7 +72,6 @@ family-table-spec =
     returns
     mul-if2
     returns-2
-    family-requires
-    write-requires
+    write-table-requires
     same-length
     returns-3)

@@ -1,11 +1,9 @@
 -- Each family has its own table, and there are three. Assumes nothing.
-use mathlib.Core.Path.{_≡_, sym, subst, _∙_}
-use Prim.Native.Nat.{_+_, _/_, _%_}
+use mathlib.Core.Path.{_≡_, sym, subst}
 use native.Mathlib.Omega.{arith}
 use borrow.Author.Needs.{needs}
-use Rattle.table.specs.Limits.{maxK}
 use Rattle.table.specs.Table.{OfFamily}
-use Rattle.table.proofs.FamilyLaws.{family-house}
+use Rattle.table.proofs.FamilyLaws.{house-of-family}
 use Rattle.table.proofs.Table.family.Statement.{statement}
 use Rattle.table.proofs.Table.family.Tie as tie
 
@@ -17,8 +15,7 @@ returns c =
     let s = c .before .before .args in
     let t = c .house .result in
     let e = c .house .ensures in
-    let sheet : OfFamily 1 (s .k) (s .m) t = record { k-is = e .0; m-is = e .1; cells-are = λ i l. e .2 i l ∙ family-house (s .k) (s .m) (i / maxK + 1) (i % maxK + 1) } in
-    subst (λ f. OfFamily f (s .k) (s .m) t) (sym (c .before .if1 .taken)) sheet
+    subst (λ f. OfFamily f (s .k) (s .m) t) (sym (c .before .if1 .taken)) (house-of-family (s .k) (s .m) t (e .0) (e .1) (e .2))
 
 hankel-requires : tie.Need-hankel-requires
 hankel-requires c κs = search needs
