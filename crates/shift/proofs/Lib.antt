@@ -1,1 +1,3 @@
-pub mod ShiftLaws
+pub mod WordLaws
+pub mod CarryLaws
+pub mod FromLaws

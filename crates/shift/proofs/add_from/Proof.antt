@@ -5,7 +5,7 @@ use native.Mathlib.Omega.{arith}
 use borrow.Author.Needs.{needs}
 use Rattle.bits.specs.Bits.{bitAt}
 use Rattle.bits.proofs.UpLaws.{up-same}
-use Rattle.shift.proofs.ShiftLaws.{copy-down, into-noughts}
+use Rattle.shift.proofs.FromLaws.{copy-down, into-noughts}
 use Rattle.shift.proofs.add_from.Statement.{statement}
 use Rattle.shift.proofs.add_from.Tie as tie
 
