@@ -52,7 +52,7 @@ pub fn add_from(dst: &mut [u8], start: usize, src: &[u8], e: usize, n: usize)
     add_bytes(dst, start, &copy[1..n + 1], n);
 }
 
-// The eight bytes of src from byte i on as one number, the first the lowest: the upper four count 2^32.
+// The eight bytes of src from byte i on as one number, the first the lowest: the second half counts 2^32 times as much as the first.
 fn word(src: &[u8], i: usize) -> u64
     requires { ⌜ i + 8 ≤ length (now src) ⌝ }
     ensures { λ r. ⌜ r ≡ num (slice (now (src .entry)) i 8) ⌝ }
@@ -60,7 +60,8 @@ fn word(src: &[u8], i: usize) -> u64
     half(src, i) + half(src, i + 4) * 4294967296
 }
 
-// Adds the eight bytes of x, the lowest first, into dst from byte i on. It does not call `word`: with two callers a board's compiler would not inline it, and stack would go for the call.
+// Adds the eight bytes of x, the lowest first, into dst from byte i on. It does not call `word`: with two callers a
+// board's compiler would not inline it, and the call would take stack.
 fn add_word(dst: &mut [u8], i: usize, x: u64)
     requires { ⌜ i + 8 ≤ length (now dst) ⌝ }
     ensures { λ _. ⌜ ((p : ℕ) → bitAt (now (dst .exit)) p ≡ (bitAt (now (dst .entry)) p + bit (x * 2 ^ (8 * i)) p) % 2) ⌝ }
