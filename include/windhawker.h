@@ -27,7 +27,8 @@
  *   A source takes l bytes. Each parity takes P bytes, the fewest that hold 8 * l + r bits.
  *   Sources to encode, and rebuilt sources, are k * l bytes, source 1 first. Packets at hand stand
  *   one after another, lowest packet number first, with no gaps. Lengths are exact: one byte too
- *   many is refused like one too few. wh_packet_length and wh_survivors_length do the sums.
+ *   many is refused like one too few. wh_packet_length and wh_survivors_length do the sums. Only
+ *   where blocks are read or written may the destination be longer.
  *
  * MARKS
  *   The packets at hand, told as one number: bit 0 is set when packet 1 is there, bit 1 for packet
@@ -40,6 +41,19 @@
  *   than entry (a, c) + progress of c for every other missing, unfinished source c. A step takes a
  *   bare pair and uncovers one more bit of b. When nothing is bare and something is missing, the
  *   decoding has stalled.
+ *
+ * BLOCKS, RUNS
+ *   A card reader hands a packet over in blocks (I-blocks of ISO/IEC 7816-3, protocol T=1). The
+ *   bytes of a block are NAD, the node address; PCB, the control byte; LEN; LEN bytes of
+ *   information; and LRC, the XOR of all bytes before it. A card's information field is 32 bytes by
+ *   default, so a parity of 64 bytes comes as several blocks, one after another: a run. Two bits of
+ *   PCB tell where in the run a block stands. N(S), the send number (40 hex), is 0 in the first
+ *   block, 1 in the second, 0 in the third, and so on; each packet's run begins with 0 here, where
+ *   the standard counts on from packet to packet. M ("more", 20 hex) is set in all blocks but the
+ *   last. The packet is the information of all blocks, joined. wh_read_blocks takes a whole run;
+ *   wh_write_blocks makes one of a packet, of at most WH_BLOCKS_LONGEST bytes. wh_block takes one
+ *   block and tells its N(S) and M. A block with M set is not a whole packet, and one with N(S) 1
+ *   does not begin one: where a packet may come in more than one block, use wh_read_blocks.
  *
  * NUMBERS
  *   Every call answers with a number of this list; windhawker_limits.h has their names as macros.
@@ -55,20 +69,27 @@
  *      7  WH_MARKS           the marks are not exactly k
  *     17  WH_PROGRESS        a progress is above 8 * l, or is not 0 for a source at hand or for a
  *                            number above k
+ *     36  WH_CUT             the size to cut a packet by is outside 1 to 254
  *      4  WH_INPUT           an input buffer has not the exact length: sources take k * l bytes,
- *                            packets at hand take wh_survivors_length
+ *                            packets at hand take wh_survivors_length; or a packet that is to be
+ *                            cut into blocks is above WH_LONGEST bytes
  *      5  WH_OUTPUT          an output buffer has not the exact length: a table takes m * k bytes,
  *                            sources k * l, a packet wh_packet_length, all parities m times that
  *      8  WH_STALL           stalled: no order of steps finishes all missing sources
  *      9  WH_STRAY           a parity at hand has a one above bit 8 * l + r - 1
  *     10  WH_FOREIGN         no sources encode to these packets
- *   and for a block from a card reader, in this order:
- *     11  WH_BLOCK_SHORT     fewer than 4 bytes
+ *   and for a block from a card reader, in this order. In a run the next block is looked at only
+ *   when the one before it passes and has M set. WH_ROOM comes once, last:
+ *     11  WH_BLOCK_SHORT     the block has fewer than 4 bytes; in a run: fewer than 4 are left
  *     12  WH_BLOCK_RESERVED  its length byte LEN is 255, which is reserved
- *     13  WH_BLOCK_LENGTH    it is not LEN + 4 bytes long
+ *     13  WH_BLOCK_LENGTH    it is not LEN + 4 bytes long; in a run: fewer than that are left
  *     14  WH_BLOCK_SUM       the XOR of all its bytes is not 0
- *     15  WH_BLOCK_HEADER    NAD is not 00, or PCB is neither 00 nor 40 hex
- *     16  WH_ROOM            LEN is above the length of the destination
+ *     15  WH_BLOCK_HEADER    NAD is not 00, or PCB is none of 00 20 40 60 hex
+ *     20  WH_BLOCK_TURN      N(S) is out of turn
+ *     21  WH_BLOCK_END       the run ends with M set, or goes on after a block without it: M and
+ *                            nothing left, or no M and any byte left
+ *     16  WH_ROOM            the destination is too short for what is to be written there: a
+ *                            block's information, a run's joined bytes, or the blocks
  *   The program class_sheet has one more, before all others:
  *     18  WH_LINE            its input is not one line `k m L`
  *
@@ -88,9 +109,11 @@
  *   otherwise. Buffers that you lend to one call must not overlap. Any numbers and any bytes may be
  *   passed: nothing is cut to fewer bits on its way in, and lengths have 64 bits on every board.
  *   NULL is a buffer of length 0, whatever length stands beside it, and is refused as that: with
- *   WH_TABLE, WH_INPUT, WH_OUTPUT or WH_BLOCK_SHORT. Length 0 is right in one place only, the
- *   destination of a block whose LEN is 0; for any other good block it is WH_ROOM. Progress is not
- *   NULL: it is always an array of WH_MAX_K numbers.
+ *   WH_TABLE, WH_INPUT, WH_OUTPUT, WH_BLOCK_SHORT or, for a destination, WH_ROOM. Length 0 is right
+ *   in two places only: the destination of a block or a run that has no information, and the packet
+ *   that wh_write_blocks cuts. So a packet that is NULL is an empty one, and not refused: look at a
+ *   pointer that may be NULL before you lend it. Progress is not NULL: it is always an array of
+ *   WH_MAX_K numbers.
  *
  * WARNINGS
  *   With -Wall, gcc and clang warn where a call's number or struct is not looked at at all, and
@@ -107,9 +130,9 @@
 
 #include "windhawker_limits.h"
 
-#define WH_VERSION "0.2.0"
+#define WH_VERSION "0.3.0"
 #define WH_VERSION_MAJOR 0
-#define WH_VERSION_MINOR 2
+#define WH_VERSION_MINOR 3
 
 /* What a compiler is told about the calls; one that does not know the words is told nothing.
  * WH_LOOK_AT_IT: the answer is looked at. WH_READS(3, 4): parameter 3 is a buffer that is read, of
@@ -164,7 +187,8 @@ static inline const char *wh_meaning(uint64_t number)
     case WH_LENGTH: return "the source length is outside 1 to " WH_TEXT(WH_MAX_LENGTH);
     case WH_TABLE: return "the table has a wrong length or an entry above " WH_TEXT(WH_MAX_SHIFT);
     case WH_INPUT: return "an input buffer has not the exact length: sources take k * l bytes, "
-                          "packets at hand take wh_survivors_length";
+                          "packets at hand take wh_survivors_length, a packet that is to be cut "
+                          "into blocks at most " WH_TEXT(WH_LONGEST);
     case WH_OUTPUT: return "an output buffer has not the exact length: a table takes m * k bytes, "
                            "sources k * l, a packet wh_packet_length, all parities m times that";
     case WH_PACKET: return "no such packet, source or mark: packets are 1 to k + m, "
@@ -177,11 +201,14 @@ static inline const char *wh_meaning(uint64_t number)
     case WH_BLOCK_RESERVED: return "the block's length byte is 255";
     case WH_BLOCK_LENGTH: return "the block is not as long as its length byte says";
     case WH_BLOCK_SUM: return "the block's bytes do not XOR to 0";
-    case WH_BLOCK_HEADER: return "the block's first two bytes are not those of a lone block";
-    case WH_ROOM: return "the block does not fit into the destination";
+    case WH_BLOCK_HEADER: return "the block's NAD is not 00, or its PCB is none of 00 20 40 60 hex";
+    case WH_ROOM: return "the destination is too short for what is to be written there";
     case WH_PROGRESS: return "progress that no source can have";
     case WH_LINE: return "the input is not one line `k m L`";
     case WH_FAMILY: return "the family is outside 1 to " WH_TEXT(WH_FAMILIES);
+    case WH_BLOCK_TURN: return "the block's N(S) is out of turn";
+    case WH_BLOCK_END: return "the run ends with M set, or goes on after a block without it";
+    case WH_CUT: return "the size to cut a packet by is outside 1 to " WH_TEXT(WH_MAX_INFORMATION);
     default: return "no number of the list";
     }
 }
@@ -447,28 +474,82 @@ static inline const uint8_t *wh_look_at(wh_looked looked, const uint8_t *survivo
     return NULL;
 }
 
-/* ---- Block ----------------------------------------------------------------------------------- */
+/* ---- Blocks ---------------------------------------------------------------------------------- */
 
 typedef struct {
     uint64_t number;
-    uint64_t length; /* information bytes */
+    uint64_t length;   /* information bytes */
+    uint64_t sequence; /* N(S); 0 too when refused */
+    uint64_t more;     /* M: 1 when the packet goes on in the next block; 0 in the last one, and
+                          when refused: look at the number first */
 } wh_taken;
+
+typedef struct {
+    uint64_t number;
+    uint64_t length; /* information bytes of all blocks */
+} wh_joined;
+
+typedef struct {
+    uint64_t number;
+    uint64_t length; /* bytes of all blocks */
+} wh_written;
 
 WH_LOOK_AT_IT
 uint64_t whx_block(const uint8_t *block, uint64_t block_len, uint8_t *dest, uint64_t dest_len,
-                   uint64_t *length);
+                   uint64_t *length, uint64_t *sequence, uint64_t *more);
+WH_LOOK_AT_IT
+uint64_t whx_read_blocks(const uint8_t *blocks, uint64_t blocks_len, uint8_t *dest,
+                         uint64_t dest_len, uint64_t *length);
+WH_LOOK_AT_IT
+uint64_t whx_write_blocks(const uint8_t *packet, uint64_t packet_len, uint64_t size, uint8_t *dest,
+                          uint64_t dest_len, uint64_t *length);
 
 /* Takes one block from a card reader, whose bytes are NAD, PCB, LEN, information, LRC: copies the
- * information to the front of the destination and gives how many bytes that were. The rest of the
- * destination keeps its bytes. Checks 11 12 13 14 15 16. */
+ * information to the front of the destination and gives how many bytes those are, and the block's
+ * N(S) and M. The rest of the destination keeps its bytes. Where M is set the information is not a
+ * whole packet: wh_read_blocks takes all blocks of one. Checks 11 12 13 14 15 16. */
 WH_LOOK_AT_IT WH_READS(1, 2) WH_WRITES(3, 4)
 static inline wh_taken wh_block(const uint8_t *block, uint64_t block_len, uint8_t *dest,
                                 uint64_t dest_len)
 {
     wh_taken taken;
     taken.number = whx_block(wh_read_place(block), block == NULL ? 0 : block_len,
-                             wh_write_place(dest), dest == NULL ? 0 : dest_len, &taken.length);
+                             wh_write_place(dest), dest == NULL ? 0 : dest_len, &taken.length,
+                             &taken.sequence, &taken.more);
     return taken;
+}
+
+/* Takes a run of blocks, one after another in one buffer, of which blocks_len bytes came: copies
+ * the information of all of them, joined in order, to the front of the destination and gives how
+ * many bytes those are. The rest of the destination keeps its bytes. A run may have any number of
+ * blocks, even blocks without information. 11 to 15, 20 and 21 are checked on each block in turn,
+ * before the next is looked at; 16, for the joined bytes, comes last. Refused, nothing has been
+ * written, however many of the blocks were sound. Checks 11 12 13 14 15 20 21 16. */
+WH_LOOK_AT_IT WH_READS(1, 2) WH_WRITES(3, 4)
+static inline wh_joined wh_read_blocks(const uint8_t *blocks, uint64_t blocks_len, uint8_t *dest,
+                                       uint64_t dest_len)
+{
+    wh_joined joined;
+    joined.number =
+        whx_read_blocks(wh_read_place(blocks), blocks == NULL ? 0 : blocks_len,
+                        wh_write_place(dest), dest == NULL ? 0 : dest_len, &joined.length);
+    return joined;
+}
+
+/* Cuts a packet of at most WH_LONGEST bytes into a run of blocks that wh_read_blocks takes: size
+ * bytes of information in each, what is left in the last. An empty packet is one block with none.
+ * Writes the blocks to the front of the destination and gives how many bytes they are: those of the
+ * packet and 4 for each block, at most WH_BLOCKS_LONGEST. The rest of the destination keeps its
+ * bytes. A packet that is NULL is an empty one. Checks 36 4 16. */
+WH_LOOK_AT_IT WH_READS(1, 2) WH_WRITES(4, 5)
+static inline wh_written wh_write_blocks(const uint8_t *packet, uint64_t packet_len, uint64_t size,
+                                         uint8_t *dest, uint64_t dest_len)
+{
+    wh_written written;
+    written.number =
+        whx_write_blocks(wh_read_place(packet), packet == NULL ? 0 : packet_len, size,
+                         wh_write_place(dest), dest == NULL ? 0 : dest_len, &written.length);
+    return written;
 }
 
 /* ---- The end --------------------------------------------------------------------------------- */

@@ -1,15 +1,17 @@
-/* Printed by the program limits, from the constants of the crate table. */
+/* Printed by the program limits, from the constants of the crates table and chain. */
 
 #ifndef WINDHAWKER_LIMITS_H
 #define WINDHAWKER_LIMITS_H
 
-/* The limits of the shift table's type. */
+/* The limits of the shift table's type, and of a packet's blocks. */
 #define WH_MAX_K 8
 #define WH_MAX_M 8
 #define WH_MAX_LENGTH 56
 #define WH_MAX_SHIFT 64
 #define WH_LONGEST 64
 #define WH_FAMILIES 3
+#define WH_MAX_INFORMATION 254
+#define WH_BLOCKS_LONGEST 320
 
 /* The families of shift tables. */
 #define WH_HOUSE 1
@@ -37,5 +39,8 @@
 #define WH_PROGRESS 17
 #define WH_LINE 18
 #define WH_FAMILY 19
+#define WH_BLOCK_TURN 20
+#define WH_BLOCK_END 21
+#define WH_CUT 36
 
 #endif

@@ -1,7 +1,11 @@
 /* Lesson 2: take blocks from a card reader into a packet.
  *
  * A reader hands over whatever came from the card. The packet's four bytes have the shift table
- * right behind them, so a program that trusts the third byte of a block would write into it. */
+ * right behind them, so a program that trusts the third byte of a block would write into it.
+ *
+ * Number 0 says that the block is sound, not that it is a packet. M is set while more is to come,
+ * N(S) is 0 in a packet's first block: only a block with neither set can be a packet of its own.
+ * Packets of several blocks are lesson 7. */
 #include "show.h"
 
 #include <string.h>
@@ -16,13 +20,14 @@ typedef struct {
 
 /* NAD, PCB, LEN, information, LRC. */
 static const handed_over reader[] = {
-    {"a good block", 8, {0x00, 0x00, 4, 0x4C, 0x4F, 0x47, 0x31, 0x71}},
-    {"a good block, PCB 40", 8, {0x00, 0x40, 4, 0x4C, 0x4F, 0x47, 0x32, 0x32}},
+    {"a packet in one block", 8, {0x00, 0x00, 4, 0x4C, 0x4F, 0x47, 0x31, 0x71}},
+    {"the first of two blocks", 8, {0x00, 0x20, 4, 0x4C, 0x4F, 0x47, 0x31, 0x51}},
+    {"the last of two blocks", 8, {0x00, 0x40, 4, 0x4C, 0x4F, 0x47, 0x32, 0x32}},
     {"nothing but a start", 3, {0x00, 0x00, 4}},
     {"a length byte of 255", 8, {0x00, 0x00, 255, 0x4C, 0x4F, 0x47, 0x31, 0x8A}},
     {"a byte lost on the way", 7, {0x00, 0x00, 4, 0x4C, 0x4F, 0x47, 0x31}},
     {"a bit turned on the way", 8, {0x00, 0x00, 4, 0x4C, 0x4F, 0x46, 0x31, 0x71}},
-    {"a block of a chain", 8, {0x00, 0x20, 4, 0x4C, 0x4F, 0x47, 0x31, 0x51}},
+    {"a receipt, an R-block", 4, {0x00, 0x80, 0, 0x80}},
     {"five bytes for four", 9, {0x00, 0x00, 5, 0x4C, 0x4F, 0x47, 0x31, 0x21, 0x51}},
     {"two bytes for four", 6, {0x00, 0x00, 2, 0x4C, 0x4F, 0x01}},
 };
@@ -36,7 +41,7 @@ static const char *what_to_do(uint64_t number)
     case WH_BLOCK_SUM:
         return "ask the card for the block again";
     case WH_BLOCK_HEADER: /* another kind of block */
-        return "the card hands over no whole packet";
+        return "it carries no part of a packet";
     case WH_ROOM:
         return "this card belongs to longer sources";
     default:
@@ -52,6 +57,10 @@ static void take(const handed_over *from, uint8_t *packet)
     if (taken.number != WH_DONE) {
         printf("\n  refused, %" PRIu64 ": %s\n  so: %s\n", taken.number, wh_meaning(taken.number),
                what_to_do(taken.number));
+    } else if (taken.more != 0) {
+        printf("\n  taken, but not a packet: M is set, more is to come (lesson 7)\n");
+    } else if (taken.sequence != 0) {
+        printf("\n  taken, but not a packet: N(S) is 1, a block came before it (lesson 7)\n");
     } else if (taken.length != PACKET) {
         printf("\n  taken, but %" PRIu64 " bytes are not a packet of %d\n", taken.length, PACKET);
     } else {

@@ -1,11 +1,12 @@
 /* The whole job on a built-in sample: a logbook is cut into sources and coded onto cards, a reader
- * hands the packets over as blocks, two cards are lost, and the log is read back and compared.
- * Called with the word `size` it prints only k, m and l. */
+ * hands each packet over as a run of blocks, two cards are lost, and the log is read back and
+ * compared. Called with the word `size` it prints only k, m and l. */
 #include "show.h"
 
 #include <string.h>
 
-enum { K = 4, M = 2, N = K + M, BLOCK_MOST = WH_LONGEST + 4 };
+enum { K = 4, M = 2, N = K + M };
+enum { SIZE = 32, BLOCK = SIZE + 4 }; /* information bytes of a card's block, and all its bytes */
 
 static const char recorded[] = "06:40 bus leaves, 24 of 24 on board\n"
                                "08:15 harbour, wind 3 m/s, 11.2 C\n"
@@ -76,37 +77,46 @@ static void encode(void)
     }
 }
 
-/* What a card reader makes of a packet: NAD, PCB, LEN, the packet, and the XOR of all before. */
-static size_t hand_over(const uint8_t *packet, size_t length, uint8_t *block)
+/* What a card reader makes of a packet. Gives the bytes of all its blocks. */
+static size_t hand_over(const uint8_t *packet, size_t length, uint8_t run[WH_BLOCKS_LONGEST])
 {
-    block[0] = 0x00;
-    block[1] = 0x00;
-    block[2] = (uint8_t)length;
-    memcpy(block + 3, packet, length);
-    block[length + 3] = 0;
-    for (size_t i = 0; i < length + 3; i++) {
-        block[length + 3] ^= block[i];
-    }
-    return length + 4;
+    wh_written written = wh_write_blocks(packet, length, SIZE, run, WH_BLOCKS_LONGEST);
+    must(written.number, "wh_write_blocks");
+    return (size_t)written.length;
 }
 
-static void take_blocks(void)
+/* The start and the end of each block. */
+static void show_run(const uint8_t *run, size_t length)
 {
-    uint8_t block[BLOCK_MOST];
-    printf("\n4. The reader hands each packet over as a block:\n");
-    for (int i = 0; i < N; i++) {
-        size_t length = hand_over(cards[i], lengths[i], block);
-        wh_taken taken = wh_block(block, length, packets[i], WH_LONGEST);
-        must(taken.number, "wh_block");
-        printf("   card %d  ", i + 1);
-        print_bytes(block, 9);
-        printf(" ... %02X: %" PRIu64 " bytes taken\n", block[length - 1], taken.length);
+    for (size_t at = 0; at < length; at += BLOCK) {
+        size_t end = length - at < BLOCK ? length : at + BLOCK;
+        print_bytes(run + at, 4);
+        printf(" ... %02X%s", run[end - 1], end < length ? ", " : "");
     }
-    hand_over(cards[0], lengths[0], block);
-    block[2] = 255;
-    wh_taken taken = wh_block(block, lengths[0] + 4, packets[0], WH_LONGEST);
-    printf("   card 1 once more, its length byte spoiled: refused, %" PRIu64 ": %s\n", taken.number,
-           wh_meaning(taken.number));
+}
+
+static void take_runs(void)
+{
+    uint8_t run[WH_BLOCKS_LONGEST];
+    printf("\n4. The reader hands each packet over as blocks of at most %d bytes:\n", SIZE);
+    for (int i = 0; i < N; i++) {
+        size_t length = hand_over(cards[i], lengths[i], run);
+        wh_joined joined = wh_read_blocks(run, length, packets[i], WH_LONGEST);
+        must(joined.number, "wh_read_blocks");
+        if (joined.length != lengths[i]) {
+            printf("   card %d has %" PRIu64 " bytes, not %zu\n", i + 1, joined.length, lengths[i]);
+            exit(1);
+        }
+        printf("   card %d  ", i + 1);
+        show_run(run, length);
+        printf(": %" PRIu64 " bytes taken\n", joined.length);
+    }
+    size_t length = hand_over(cards[0], lengths[0], run);
+    run[2] = 255;
+    wh_joined joined = wh_read_blocks(run, length, packets[0], WH_LONGEST);
+    printf("   card 1 once more, its first length byte spoiled: %s, %" PRIu64 ": %s\n",
+           joined.number == WH_DONE ? "taken" : "refused", joined.number,
+           wh_meaning(joined.number));
 }
 
 /* The packets at hand, one after another, lowest number first. */
@@ -147,7 +157,7 @@ int main(int words, char **word)
     }
     cut();
     encode();
-    take_blocks();
+    take_runs();
     if (!read_back(0x39)) { /* cards 1, 4, 5, 6 */
         printf("\n   This is NOT the log that was recorded.\n");
         return 1;

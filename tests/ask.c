@@ -8,18 +8,22 @@
 #include <stdio.h>
 #include <string.h>
 
-enum { WORDS_MOST = 400 };
+enum { WORDS_MOST = 500 };
 
 static void describe(const question *q, char *words)
 {
-    int used =
-        snprintf(words, WORDS_MOST,
-                 "k %" PRIu64 " m %" PRIu64 " l %" PRIu64 " family %" PRIu64 " marks %" PRIu64
-                 " packet %" PRIu64 " source %" PRIu64 " lengths %zu %zu %zu %zu table",
-                 q->k, q->m, q->l, q->family, q->marks, q->packet, q->source, q->table.length,
-                 q->input.length, q->rebuilt.length, q->output.length);
+    int used = snprintf(words, WORDS_MOST,
+                        "k %" PRIu64 " m %" PRIu64 " l %" PRIu64 " family %" PRIu64
+                        " marks %" PRIu64 " packet %" PRIu64 " source %" PRIu64 " size %" PRIu64
+                        " lengths %zu %zu %zu %zu table",
+                        q->k, q->m, q->l, q->family, q->marks, q->packet, q->source, q->size,
+                        q->table.length, q->input.length, q->rebuilt.length, q->output.length);
     for (size_t i = 0; i < q->table.length && i < 16; i++) {
         used += snprintf(words + used, (size_t)(WORDS_MOST - used), " %d", q->table.at[i]);
+    }
+    used += snprintf(words + used, (size_t)(WORDS_MOST - used), " input");
+    for (size_t i = 0; i < q->input.length && i < 16; i++) {
+        used += snprintf(words + used, (size_t)(WORDS_MOST - used), " %02X", q->input.at[i]);
     }
 }
 
@@ -87,6 +91,14 @@ answer compare(const call *asked, const question *q)
     answer right = asked->model(q, right_output);
     expect(asked, q, &right, right_output);
     return right;
+}
+
+void compare_into_outputs(const call *asked, question *q, size_t around)
+{
+    for (size_t length = around > 2 ? around - 2 : 0; length <= around + 2; length++) {
+        set_bytes(&q->output, length);
+        compare(asked, q);
+    }
 }
 
 void compare_spoiled(const call *asked, uint64_t questions)

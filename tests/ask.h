@@ -22,6 +22,9 @@ void expect(const call *asked, const question *q, const answer *right, const uin
 /* The same with the model's answer, which is also given back. */
 answer compare(const call *asked, const question *q);
 
+/* Compares at this question with outputs that are shorter than so many bytes, equal and longer. */
+void compare_into_outputs(const call *asked, question *q, size_t around);
+
 /* Compares at drawn questions of which a part is spoiled in a few places. */
 void compare_spoiled(const call *asked, uint64_t questions);
 

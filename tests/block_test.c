@@ -3,19 +3,10 @@
 #include "check.h"
 #include "random.h"
 
-/* Into destinations that are shorter, equal and longer than LEN says. */
-static void compare_into_destinations(question *q, size_t around)
-{
-    for (size_t length = around > 2 ? around - 2 : 0; length <= around + 2; length++) {
-        set_bytes(&q->output, length);
-        compare(&block_call, q);
-    }
-}
-
 /* Every block of this length whose bytes are from a telling set. */
 static void compare_every_block(size_t length)
 {
-    static const uint8_t telling[] = {0x00, 0x01, 0x02, 0x40, 0x41, 0x80, 0xFE, 0xFF};
+    static const uint8_t telling[] = {0x00, 0x01, 0x20, 0x40, 0x60, 0x80, 0xFE, 0xFF};
     question q = {0};
     q.input.length = length;
     for (uint64_t choice = 0; choice < (uint64_t)1 << (3 * length); choice++) {
@@ -48,6 +39,7 @@ static void every_nad_and_pcb(void)
 {
     question q;
     draw_for_block(&q);
+    q.output.length = WH_MAX_INFORMATION;
     for (int nad = 0; nad < 256; nad++) {
         for (int pcb = 0; pcb < 256; pcb++) {
             q.input.at[0] = (uint8_t)nad;
@@ -66,10 +58,10 @@ static void every_len(void)
         for (size_t length = len + 2; length <= len + 6; length++) {
             set_bytes(&q.input, length);
             q.input.at[0] = 0;
-            q.input.at[1] = 0x40;
+            q.input.at[1] = pcb_with(len % 2, len / 2 % 2);
             q.input.at[2] = (uint8_t)len;
             set_lrc(&q);
-            compare_into_destinations(&q, len);
+            compare_into_outputs(&block_call, &q, len);
         }
     }
 }
@@ -81,7 +73,7 @@ static void every_length_with_len_255(void)
         set_bytes(&q.input, length);
         q.input.at[0] = q.input.at[1] = 0;
         q.input.at[2] = 0xFF;
-        compare_into_destinations(&q, 255);
+        compare_into_outputs(&block_call, &q, 255);
     }
 }
 
@@ -91,7 +83,7 @@ static void every_single_byte_changed(void)
     question drawn;
     for (int i = 0; i < 4; i++) {
         draw_for_block(&drawn);
-        drawn.output.length = 255;
+        drawn.output.length = WH_MAX_INFORMATION;
         for (size_t at = 0; at < drawn.input.length; at++) {
             for (int value = 0; value < 256; value++) {
                 question q = drawn;
@@ -108,7 +100,7 @@ static void good_blocks(void)
     for (int i = 0; i < 3000; i++) {
         draw_for_block(&q);
         compare(&block_call, &q);
-        compare_into_destinations(&q, q.input.length - 4);
+        compare_into_outputs(&block_call, &q, q.input.length - 4);
     }
 }
 
@@ -135,13 +127,17 @@ static void block_spoiled(void)
     compare_spoiled(&block_call, 10000);
 }
 
-static void slot_is_set_when_refused(void)
+static void slots_are_set_when_refused(void)
 {
-    const uint8_t block[4] = {0, 0, 0xFF, 0};
+    const uint8_t reserved[4] = {0, 0x60, 0xFF, 0}, no_room[5] = {0, 0x60, 1, 0, 0x61};
     uint8_t dest[1] = {0};
-    uint64_t length = 77;
-    expect_number(whx_block(block, 4, dest, 1, &length), WH_BLOCK_RESERVED);
-    expect_zeros(&length, 1);
+    uint64_t slots[3] = {77, 78, 79};
+    expect_number(whx_block(reserved, 4, dest, 1, &slots[0], &slots[1], &slots[2]),
+                  WH_BLOCK_RESERVED);
+    expect_zeros(slots, 3);
+    slots[0] = slots[1] = slots[2] = 77;
+    expect_number(whx_block(no_room, 5, dest, 0, &slots[0], &slots[1], &slots[2]), WH_ROOM);
+    expect_zeros(slots, 3);
 }
 
 int main(void)
@@ -156,7 +152,7 @@ int main(void)
         {"block_random_blocks", random_blocks},
         {"block_takes_any_lengths", block_takes_any_lengths},
         {"block_spoiled", block_spoiled},
-        {"block_slot_is_set_when_refused", slot_is_set_when_refused},
+        {"block_slots_are_set_when_refused", slots_are_set_when_refused},
     };
     return run_named_tests(tests, sizeof tests / sizeof tests[0]);
 }

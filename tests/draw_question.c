@@ -246,18 +246,46 @@ void draw_for_look(question *q)
     set_bytes(&q->rebuilt, q->k * q->l);
 }
 
+/* A block with that many random bytes of information, behind what is there. */
+static void draw_block(bytes *blocks, uint8_t pcb, uint64_t length)
+{
+    bytes information;
+    set_bytes(&information, length);
+    add_block(blocks, pcb, information.at, information.length);
+}
+
 /* A good block, and a destination that may be too short. */
 void draw_for_block(question *q)
 {
-    uint8_t information = (uint8_t)random_below(255);
     memset(q, 0, sizeof *q);
-    set_bytes(&q->input, (uint64_t)information + 4);
+    uint8_t pcb = pcb_with(random_below(2), random_below(2));
+    draw_block(&q->input, pcb, random_below(WH_MAX_INFORMATION + 1));
     set_bytes(&q->output, random_below(300));
-    q->input.at[0] = 0;
-    q->input.at[1] = random_below(2) == 0 ? 0x00 : 0x40;
-    q->input.at[2] = information;
-    q->input.at[information + 3] = 0;
-    for (size_t i = 0; i < (size_t)information + 3; i++) {
-        q->input.at[information + 3] ^= q->input.at[i];
+}
+
+/* A good run; or, one in three, with a bit of one PCB turned over: M, N(S), or one that no I-block
+ * has. The destination is mostly as long as the information, and may be too short. */
+void draw_for_read_blocks(question *q)
+{
+    static const uint64_t longest[] = {0, 1, 3, 32, 100, WH_MAX_INFORMATION};
+    uint64_t most = longest[random_below(6)];
+    uint64_t count = random_between(1, most == WH_MAX_INFORMATION ? 2 : 5);
+    uint64_t bent = random_below(3 * count);
+    memset(q, 0, sizeof *q);
+    for (uint64_t i = 0; i < count; i++) {
+        unsigned turned = i == bent ? 0x20u << random_below(3) : 0;
+        uint8_t pcb = (uint8_t)(pcb_with(i % 2, i + 1 < count) ^ turned);
+        draw_block(&q->input, pcb, random_below(most + 1));
     }
+    uint64_t information = q->input.length - count * BLOCK_FRAME;
+    set_bytes(&q->output, random_below(3) > 0 ? information : random_below(q->input.length));
+}
+
+/* A packet of any length, blocks of any size, and a destination that may be too short. */
+void draw_for_write_blocks(question *q)
+{
+    memset(q, 0, sizeof *q);
+    q->size = random_between(1, random_below(2) == 0 ? 8 : WH_MAX_INFORMATION);
+    set_bytes(&q->input, random_below(WH_LONGEST + 1));
+    set_bytes(&q->output, random_below(WH_BLOCKS_LONGEST + 1));
 }

@@ -44,15 +44,17 @@ void draw_for_rebuild(question *q);
 void draw_for_repair(question *q);
 void draw_for_look(question *q);
 void draw_for_block(question *q);
+void draw_for_read_blocks(question *q);
+void draw_for_write_blocks(question *q);
 
 /* Spoiling one place, at random or with a chosen value of the row of telling ones. The places are
- * seven numbers, each source's progress, four lengths, and any byte of the table or of the input. */
+ * eight numbers, each source's progress, four lengths, any byte of the table or of the input. */
 enum {
-    PROGRESS_PLACE = 7,
+    PROGRESS_PLACE = 8,
     LENGTH_PLACE = PROGRESS_PLACE + WH_MAX_K,
     BYTE_PLACE = LENGTH_PLACE + LENT_BUFFERS,
     SPOILED_PLACES = BYTE_PLACE + 2,
-    TELLING_VALUES = 27
+    TELLING_VALUES = 29
 };
 void spoil(question *q);
 void spoil_place(question *q, size_t place, size_t value);

@@ -12,21 +12,43 @@ static question block(const char *hex)
     return with_input(none, hex);
 }
 
+static answer taken(uint64_t length, uint64_t sequence, uint64_t more)
+{
+    answer given = done_with(length);
+    given.results[1] = sequence;
+    given.results[2] = more;
+    return given;
+}
+
 static void block_AA_55(void)
 {
-    gives(&block_call, block("00 00 02 AA 55 FD"), done_with(2), "AA 55");
-    gives(&block_call, block("00 40 02 AA 55 BD"), done_with(2), "AA 55");
+    gives(&block_call, block("00 00 02 AA 55 FD"), taken(2, 0, 0), "AA 55");
+    gives(&block_call, block("00 40 02 AA 55 BD"), taken(2, 1, 0), "AA 55");
+}
+
+/* The first of two, and the second of three: no whole packets. */
+static void block_with_more_to_come(void)
+{
+    gives(&block_call, block("00 20 02 01 02 21"), taken(2, 0, 1), "01 02");
+    gives(&block_call, block("00 60 02 AA 55 9D"), taken(2, 1, 1), "AA 55");
+    gives(&block_call, block("00 20 00 20"), taken(0, 0, 1), "");
+}
+
+static void block_refused_has_no_sequence_and_no_more(void)
+{
+    refuses(&block_call, block("00 60 02 AA 55 9D"), refused(WH_ROOM), 1);
+    refuses(&block_call, block("00 60 02 AA 55 9C"), refused(WH_BLOCK_SUM), 2);
 }
 
 static void block_keeps_the_tail(void)
 {
-    gives(&block_call, block("00 00 02 12 34 24"), done_with(2), "12 34 AA AA");
+    gives(&block_call, block("00 00 02 12 34 24"), taken(2, 0, 0), "12 34 AA AA");
 }
 
 static void block_of_no_bytes(void)
 {
-    gives(&block_call, block("00 00 00 00"), done_with(0), "");
-    gives(&block_call, block("00 00 00 00"), done_with(0), "AA AA AA");
+    gives(&block_call, block("00 00 00 00"), taken(0, 0, 0), "");
+    gives(&block_call, block("00 00 00 00"), taken(0, 0, 0), "AA AA AA");
 }
 
 static void block_len_FF_is_12(void)
@@ -57,13 +79,16 @@ static void block_r_and_s_are_15(void)
 {
     refuses(&block_call, block("00 80 00 80"), refused(WH_BLOCK_HEADER), 4);
     refuses(&block_call, block("00 C0 00 C0"), refused(WH_BLOCK_HEADER), 4);
-    refuses(&block_call, block("00 20 00 20"), refused(WH_BLOCK_HEADER), 4);
+    refuses(&block_call, block("00 10 00 10"), refused(WH_BLOCK_HEADER), 4);
 }
 
 int main(void)
 {
     static const named_test tests[] = {
         {"example_block_AA_55", block_AA_55},
+        {"example_block_with_more_to_come", block_with_more_to_come},
+        {"example_block_refused_has_no_sequence_and_no_more",
+         block_refused_has_no_sequence_and_no_more},
         {"example_block_keeps_the_tail", block_keeps_the_tail},
         {"example_block_of_no_bytes", block_of_no_bytes},
         {"example_block_len_FF_is_12", block_len_FF_is_12},

@@ -38,7 +38,7 @@ static int meanings_differ(void)
         }
     }
     return strcmp(wh_meaning(WH_DONE), none) != 0 && strcmp(wh_meaning(WH_LINE), none) != 0 &&
-           strcmp(wh_meaning(WH_FAMILY), none) != 0;
+           strcmp(wh_meaning(WH_FAMILY), none) != 0 && strcmp(wh_meaning(WH_CUT), none) != 0;
 }
 
 static int ends_with(const char *words, int limit)
@@ -53,7 +53,9 @@ static int meanings_have_the_limits(void)
     return ends_with(wh_meaning(WH_SIZE), WH_MAX_K) && ends_with(wh_meaning(WH_SIZE), WH_MAX_M) &&
            ends_with(wh_meaning(WH_LENGTH), WH_MAX_LENGTH) &&
            ends_with(wh_meaning(WH_TABLE), WH_MAX_SHIFT) &&
-           ends_with(wh_meaning(WH_FAMILY), WH_FAMILIES);
+           ends_with(wh_meaning(WH_FAMILY), WH_FAMILIES) &&
+           ends_with(wh_meaning(WH_INPUT), WH_LONGEST) &&
+           ends_with(wh_meaning(WH_CUT), WH_MAX_INFORMATION);
 }
 
 static int says(uint64_t number, const char *words)
@@ -95,6 +97,7 @@ static int null_is_no_bytes(void)
     static const uint8_t four[4] = {0x00, 0x01, 0x80, 0x03}; /* their parities */
     static const uint8_t block[6] = {0, 0, 2, 3, 4, 5};
     static const uint8_t empty_block[4] = {0, 0, 0, 0};
+    static const uint8_t empty_run[8] = {0, 0x20, 0, 0x20, 0, 0x40, 0, 0x40};
     const uint64_t progress[WH_MAX_K] = {0};
     uint8_t out[4];
     const given answers[] = {
@@ -122,6 +125,11 @@ static int null_is_no_bytes(void)
         {"the block", wh_block(none, 6, out, 4).number, WH_BLOCK_SHORT},
         {"the destination", wh_block(block, 6, none, 4).number, WH_ROOM},
         {"the destination of no bytes", wh_block(empty_block, 4, none, 4).number, WH_DONE},
+        {"the run", wh_read_blocks(none, 6, out, 4).number, WH_BLOCK_SHORT},
+        {"the run's destination", wh_read_blocks(block, 6, none, 4).number, WH_ROOM},
+        {"the empty run's destination", wh_read_blocks(empty_run, 8, none, 4).number, WH_DONE},
+        {"the packet of no bytes", wh_write_blocks(none, 2, 1, out, 4).number, WH_DONE},
+        {"the blocks", wh_write_blocks(two, 2, 2, none, 6).number, WH_ROOM},
     };
     return all_right(answers, sizeof answers / sizeof answers[0]);
 }

@@ -1,4 +1,5 @@
 /* The macros of the limits: what the library takes and refuses. */
+#include "calls_chain.h"
 #include "calls_table.h"
 #include "check.h"
 
@@ -40,12 +41,30 @@ static void longest_packet_is_reached(void)
     }
 }
 
+/* The longest packet in the smallest blocks is the most that is written; a byte less of room and a
+ * byte more of packet are refused. */
+static void most_blocks_are_reached(void)
+{
+    question q = {0};
+    q.size = 1;
+    set_bytes(&q.input, WH_LONGEST);
+    set_bytes(&q.output, WH_BLOCKS_LONGEST);
+    if (compare(&write_blocks_call, &q).results[0] != WH_BLOCKS_LONGEST) {
+        fail("another length");
+    }
+    q.output.length--;
+    expect_number(compare(&write_blocks_call, &q).number, WH_ROOM);
+    q.input.length++;
+    expect_number(compare(&write_blocks_call, &q).number, WH_INPUT);
+}
+
 int main(void)
 {
     static const named_test tests[] = {
         {"limits_one_more_is_refused", one_more_is_refused},
         {"limits_one_more_family_is_refused", one_more_family_is_refused},
         {"limits_longest_packet_is_reached", longest_packet_is_reached},
+        {"limits_most_blocks_are_reached", most_blocks_are_reached},
     };
     return run_named_tests(tests, sizeof tests / sizeof tests[0]);
 }

@@ -23,7 +23,9 @@ model_call model_next_step;        /* results: parity, source, progress */
 model_call model_rebuild;          /* results: count */
 model_call model_repair;           /* results: none */
 model_call model_look;             /* results: buffer, start, length */
-model_call model_block;            /* results: length */
+model_call model_block;            /* results: length, sequence, more */
+model_call model_read_blocks;      /* results: length */
+model_call model_write_blocks;     /* results: length */
 
 /* The shape: the number of the first check among 1 2 3 (or 1 2 3 6 7) that refuses, or WH_DONE. */
 uint64_t shape_number(const question *q);
@@ -58,5 +60,17 @@ bool bare(const question *q, const uint64_t *progress, uint64_t a, uint64_t b);
 bool whole(const question *q, const walked *walk);
 walked walk_lowest_first(const question *q);
 walked walk_in_random_order(const question *q);
+
+/* A block: the number of the first check among 11 to 15 that refuses these bytes, or WH_DONE; N(S)
+ * and M of one that was not refused. */
+uint64_t block_number(const uint8_t *block, size_t length);
+uint64_t sequence_of(const uint8_t *block);
+uint64_t more_of(const uint8_t *block);
+
+/* Puts a block with this PCB behind what is there, its LRC right. */
+void add_block(bytes *blocks, uint8_t pcb, const uint8_t *information, size_t length);
+
+/* The PCB of a block, by N(S) and M. */
+uint8_t pcb_with(uint64_t sequence, uint64_t more);
 
 #endif

@@ -28,6 +28,8 @@ static void limits(void)
         {"WH_MAX_SHIFT", WH_MAX_SHIFT, 64},
         {"WH_LONGEST", WH_LONGEST, 64},
         {"WH_FAMILIES", WH_FAMILIES, 3},
+        {"WH_MAX_INFORMATION", WH_MAX_INFORMATION, 254},
+        {"WH_BLOCKS_LONGEST", WH_BLOCKS_LONGEST, 320},
     };
     expect_pinned(names, sizeof names / sizeof names[0]);
 }
@@ -65,6 +67,9 @@ static void numbers(void)
         {"WH_PROGRESS", WH_PROGRESS, 17},
         {"WH_LINE", WH_LINE, 18},
         {"WH_FAMILY", WH_FAMILY, 19},
+        {"WH_BLOCK_TURN", WH_BLOCK_TURN, 20},
+        {"WH_BLOCK_END", WH_BLOCK_END, 21},
+        {"WH_CUT", WH_CUT, 36},
     };
     expect_pinned(names, sizeof names / sizeof names[0]);
 }

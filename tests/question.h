@@ -11,6 +11,9 @@
 /* More bytes than any call takes; and the results of the walk, which gives most. */
 enum { BYTES_MOST = WH_MAX_K * WH_LONGEST + 128, RESULTS_MOST = 2 + WH_MAX_K };
 
+/* The bytes of a block beside its information: NAD, PCB, LEN and LRC. */
+enum { BLOCK_FRAME = 4 };
+
 typedef struct {
     size_t length;
     uint8_t at[BYTES_MOST];
@@ -22,9 +25,10 @@ typedef struct {
     uint64_t marks;
     uint64_t packet;
     uint64_t source;
+    uint64_t size; /* the information bytes of a block that is to be written */
     uint64_t progress[WH_MAX_K];
     bytes table;
-    bytes input;   /* the sources, the packets at hand, or the block */
+    bytes input;   /* the sources, the packets at hand, the block or blocks, the packet to cut */
     bytes rebuilt; /* the rebuilt sources, for the look */
     bytes output;  /* with its old bytes */
 } question;

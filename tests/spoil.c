@@ -4,7 +4,8 @@
 
 static uint64_t *number_at(question *q, size_t place)
 {
-    uint64_t *numbers[] = {&q->k, &q->m, &q->l, &q->family, &q->marks, &q->packet, &q->source};
+    uint64_t *numbers[PROGRESS_PLACE] = {&q->k,     &q->m,      &q->l,      &q->family,
+                                         &q->marks, &q->packet, &q->source, &q->size};
     if (place < PROGRESS_PLACE) {
         return numbers[place];
     }
@@ -39,6 +40,8 @@ static uint64_t telling_number(uint64_t old, size_t value)
         WH_MAX_LENGTH + 1,
         8 * WH_MAX_LENGTH,
         8 * WH_MAX_LENGTH + 1,
+        WH_MAX_INFORMATION,
+        WH_MAX_INFORMATION + 1,
         old + 256,
         old + 65536,
         old + ((uint64_t)1 << 32),
@@ -62,7 +65,7 @@ static size_t telling_length(size_t old, size_t value)
 static void spoil_byte(bytes *at, size_t value)
 {
     static const uint8_t telling[] = {
-        0, 1, WH_MAX_SHIFT - 1, WH_MAX_SHIFT, WH_MAX_SHIFT + 1, 128, 255,
+        0, 1, 0x20, WH_MAX_SHIFT - 1, WH_MAX_SHIFT, WH_MAX_SHIFT + 1, 0x60, 128, 255,
     };
     if (at->length > 0) {
         at->at[random_below(at->length)] = telling[value % sizeof telling];

@@ -1,5 +1,6 @@
 /* Each call at drawn questions: good ones, spoiled ones, and ones with every telling number. */
 #include "calls_block.h"
+#include "calls_chain.h"
 #include "calls_encode.h"
 #include "calls_table.h"
 #include "calls_walk.h"
@@ -56,6 +57,26 @@ static void block(void)
     compare_drawn(&block_call);
 }
 
+static void read_blocks(void)
+{
+    compare_drawn(&read_blocks_call);
+}
+
+static void write_blocks(void)
+{
+    compare_drawn(&write_blocks_call);
+}
+
+/* Packets around one and two blocks of the size that cards have by default, and the longest. */
+static void written_and_read(void)
+{
+    static const uint64_t lengths[] = {0, 1, 31, 32, 33, 63, WH_LONGEST};
+    static const uint64_t sizes[] = {1, 2, 31, 32, 33, WH_LONGEST, WH_MAX_INFORMATION};
+    for (size_t i = 0; i < 7 * 7; i++) {
+        compare_written_and_read(lengths[i / 7], sizes[i % 7]);
+    }
+}
+
 /* As many sources and parities as there can be, as long as they can be, all sources missing. */
 static void at_the_limits(void)
 {
@@ -84,6 +105,9 @@ int main(void)
         {"drawn_walk", walk},
         {"drawn_next_step", next_step},
         {"drawn_block", block},
+        {"drawn_read_blocks", read_blocks},
+        {"drawn_write_blocks", write_blocks},
+        {"drawn_written_and_read", written_and_read},
         {"drawn_at_the_limits", at_the_limits},
     };
     return run_named_tests(tests, sizeof tests / sizeof tests[0]);

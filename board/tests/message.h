@@ -27,11 +27,13 @@ typedef enum {
     REPAIR,
     LOOK,
     BLOCK,
+    READ_BLOCKS,
+    WRITE_BLOCKS,
     CALLS
 } call_number;
 
 typedef struct {
-    uint64_t call, k, m, l, family, marks, packet, source;
+    uint64_t call, k, m, l, family, marks, packet, source, size;
     uint64_t progress[WH_MAX_K];
     uint64_t lengths[BUFFERS];
 } asked_message;

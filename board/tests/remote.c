@@ -28,7 +28,7 @@ uint64_t whx_judge(uint64_t k, uint64_t m, const uint8_t *table, uint64_t table_
     return run_for_one(&e, growing);
 }
 
-/* An errand that has a shape, as all from here on but the block. */
+/* An errand that has a shape. */
 static errand shaped_errand(call_number call, uint64_t k, uint64_t m, uint64_t l,
                             const uint8_t *table, uint64_t table_len)
 {
@@ -140,11 +140,38 @@ uint64_t whx_look(uint64_t k, uint64_t m, uint64_t l, const uint8_t *table, uint
     return answered.number;
 }
 
-uint64_t whx_block(const uint8_t *block, uint64_t block_len, uint8_t *dest, uint64_t dest_len,
-                   uint64_t *length)
+/* An errand that has an input and an output, and no shape. */
+static errand block_errand(call_number call, const uint8_t *input, uint64_t input_len,
+                           uint8_t *dest, uint64_t dest_len)
 {
-    errand e = new_errand(BLOCK, 0, 0, 0);
-    lend_input(&e, INPUT, block, block_len);
+    errand e = new_errand(call, 0, 0, 0);
+    lend_input(&e, INPUT, input, input_len);
     lend_output(&e, dest, dest_len);
+    return e;
+}
+
+uint64_t whx_block(const uint8_t *block, uint64_t block_len, uint8_t *dest, uint64_t dest_len,
+                   uint64_t *length, uint64_t *sequence, uint64_t *more)
+{
+    errand e = block_errand(BLOCK, block, block_len, dest, dest_len);
+    answered_message answered = run(&e);
+    *length = answered.results[0];
+    *sequence = answered.results[1];
+    *more = answered.results[2];
+    return answered.number;
+}
+
+uint64_t whx_read_blocks(const uint8_t *blocks, uint64_t blocks_len, uint8_t *dest,
+                         uint64_t dest_len, uint64_t *length)
+{
+    errand e = block_errand(READ_BLOCKS, blocks, blocks_len, dest, dest_len);
+    return run_for_one(&e, length);
+}
+
+uint64_t whx_write_blocks(const uint8_t *packet, uint64_t packet_len, uint64_t size, uint8_t *dest,
+                          uint64_t dest_len, uint64_t *length)
+{
+    errand e = block_errand(WRITE_BLOCKS, packet, packet_len, dest, dest_len);
+    e.words.size = size;
     return run_for_one(&e, length);
 }

@@ -16,8 +16,8 @@ static uint64_t lengths[BUFFERS];
 /* A length that is said of NULL, another one on each turn. It means nothing. */
 static uint64_t length_of_null(size_t turn)
 {
-    const uint64_t lengths_said[] = {0, asked.m * asked.k, asked.k * asked.l};
-    return lengths_said[turn % 3];
+    const uint64_t lengths_said[] = {0, asked.m * asked.k, asked.k * asked.l, WH_LONGEST};
+    return lengths_said[turn % 4];
 }
 
 /* The buffers stand one after another, so at any address, between two margins. An empty one is
@@ -96,8 +96,24 @@ static uint64_t look(void)
 static uint64_t block(void)
 {
     wh_taken taken = wh_block(buffers[INPUT], lengths[INPUT], buffers[OUTPUT], lengths[OUTPUT]);
-    set_results(taken.length, 0, NULL, 0);
+    set_results(taken.length, taken.sequence, &taken.more, 1);
     return taken.number;
+}
+
+static uint64_t read_blocks(void)
+{
+    wh_joined joined =
+        wh_read_blocks(buffers[INPUT], lengths[INPUT], buffers[OUTPUT], lengths[OUTPUT]);
+    set_results(joined.length, 0, NULL, 0);
+    return joined.number;
+}
+
+static uint64_t write_blocks(void)
+{
+    wh_written written = wh_write_blocks(buffers[INPUT], lengths[INPUT], asked.size,
+                                         buffers[OUTPUT], lengths[OUTPUT]);
+    set_results(written.length, 0, NULL, 0);
+    return written.number;
 }
 
 __attribute__((noinline)) static uint64_t ask(void)
@@ -131,6 +147,10 @@ __attribute__((noinline)) static uint64_t ask(void)
         return look();
     case BLOCK:
         return block();
+    case READ_BLOCKS:
+        return read_blocks();
+    case WRITE_BLOCKS:
+        return write_blocks();
     case CALLS:
         break;
     }

@@ -22,6 +22,8 @@ uint64_t ask_all(void)
     number |= wh_repair(2, 2, 1, table, 4, 12, input, 4, 3, output, 4);
     number |= wh_look(2, 2, 1, table, 4, 12, 1, input, 4, rebuilt, 4).number;
     number |= wh_block(input, 4, output, 4).number;
+    number |= wh_read_blocks(input, 4, output, 4).number;
+    number |= wh_write_blocks(input, 4, 2, output, 4).number;
     return number;
 }
 
@@ -30,6 +32,8 @@ uint64_t lend_nothing(uint8_t *maybe_null, uint64_t length)
 {
     uint64_t none = wh_family_table(2, 2, WH_HOUSE, NULL, 0);
     none |= wh_block(maybe_null, length, NULL, 0).number;
+    none |= wh_read_blocks(maybe_null, length, NULL, 0).number;
+    none |= wh_write_blocks(NULL, 0, 2, maybe_null, length).number;
     none |= wh_judge(2, 2, maybe_null, length).number;
     none |= wh_rebuild(2, 2, 1, NULL, 0, 12, maybe_null, length, NULL, 0).number;
     return none;

@@ -1,6 +1,6 @@
 -- Laws of a block's checks: what each says that refuses nothing. Assumes nothing.
 use mathlib.Core.Path.{_≡_, refl, subst}
-use mathlib.Core.Logic.{inl, inr}
+use mathlib.Core.Logic.{_⊎_, inl, inr}
 use mathlib.Core.List.{List, _++_}
 use Prim.Native.Nat.{ℕ, _+_, _≤_}
 use native.Mathlib.Omega.{arith}
@@ -8,19 +8,17 @@ use native.Mathlib.Decide.{ℕ-discrete, decLt}
 use lib.ListN.{length, drop, length-take, length-drop}
 use Rattle.bits.specs.Bits.{slice, xorOf}
 use Rattle.table.specs.Checks.{Checked}
-use Rattle.table.proofs.CheckLaws.{numbered-by, passed, zero-passes, not-unequal}
+use Rattle.table.proofs.CheckLaws.{numbered-by, passed, zero-passes, not-unequal, neither}
 use Rattle.card.specs.Block.{nad, pcb, len, information, TakenPcb, framingChecks, roomChecks, formChecks, blockChecks}
 
+-- one of two where it is not neither
+or-stable : {P Q : Type 0} → Dec P → (((Q → ⊥) → ⊥) → Q) → ((P ⊎ Q → ⊥) → ⊥) → P ⊎ Q
+or-stable (yes p) stable h = inl p
+or-stable (no n) stable h = inr (stable (λ q. h (neither n q)))
+
 pub taken-or-not : (p : ℕ) → ((TakenPcb p → ⊥) → ⊥) → TakenPcb p
-taken-or-not p h =
-    elim (ℕ-discrete p 0x00) [
-      | yes e ↦ inl e
-      | no n ↦ elim (ℕ-discrete p 0x40) [ yes e ↦ inr e | no n′ ↦ absurd (h (other p n n′)) ]
-    ]
-  where
-    other : (p : ℕ) → (p ≡ 0x00 → ⊥) → (p ≡ 0x40 → ⊥) → TakenPcb p → ⊥
-    other p f g (inl x) = f x
-    other p f g (inr x) = g x
+taken-or-not p =
+    or-stable (ℕ-discrete p 0x00) (or-stable (ℕ-discrete p 0x20) (or-stable (ℕ-discrete p 0x40) not-unequal))
 
 pub long : (block : List ℕ) {n : ℕ} → Checked (framingChecks block) n → n ≡ 0 → 4 ≤ length block
 long block x z =

@@ -1,5 +1,5 @@
 pub mod BlockLaws
-pub mod LoneBlocks
+pub mod IBlocks
 pub mod OneAnswer
 pub mod Examples
 pub mod RuledOut

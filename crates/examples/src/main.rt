@@ -1,5 +1,6 @@
 // Runs the worked examples of the paper, and a few inputs that tell a wrong program from a right one, one line each.
 // Unless a line says so, k = 2, m = 2, L = 1 and the table is the house table (0,1),(0,2).
+use chain::Blocks;
 use libc::STDOUT_FILENO;
 use look::Buffer;
 use table::Family;
@@ -208,7 +209,16 @@ fn numbered(label: &[u8], l: u64, table: &[u8], marks: u64) {
     say_refused(a.number);
 }
 
-// The information bytes of a block.
+// The first n bytes that a card gave, or was to be given.
+fn say_given(xs: &[u8], n: u64) {
+    if n == 0 {
+        say(b"no bytes");
+        return;
+    }
+    say_first(xs, n);
+}
+
+// The information bytes of a block, N(S) and M.
 fn say_information(block: &[u8]) {
     let mut room = [0u8; ROOM];
     let a = card::block(block, &mut room);
@@ -216,11 +226,11 @@ fn say_information(block: &[u8]) {
         say_refused(a.number);
         return;
     }
-    if a.length == 0 {
-        say(b"no bytes\n");
-        return;
-    }
-    say_first(&room, a.length);
+    say_given(&room, a.length);
+    say(b", N(S) ");
+    say_number(a.sequence);
+    say(b", M ");
+    say_number(a.more);
     say(b"\n");
 }
 
@@ -238,6 +248,59 @@ fn too_long() {
     block[ROOM + 4] = 65;
     say(b"block of LEN 65 into 64 bytes: ");
     say_information(&block);
+}
+
+// A run of blocks, into so much room.
+fn read(blocks: &[u8], room: &mut [u8]) {
+    let a = chain::read_blocks(blocks, room);
+    say(b"run ");
+    say_given(blocks, blocks.len() as u64);
+    say(b": ");
+    if a.number != 0 {
+        say_refused(a.number);
+        return;
+    }
+    say_given(room, a.length);
+    say(b"\n");
+}
+
+fn read_run(blocks: &[u8]) {
+    let mut room = [0u8; ROOM];
+    read(blocks, &mut room);
+}
+
+// A packet as blocks of a size.
+fn written(packet: &[u8], size: u64) {
+    let mut room = [0u8; Blocks::LONGEST];
+    let a = chain::write_blocks(packet, size, &mut room);
+    say(b"packet ");
+    say_given(packet, packet.len() as u64);
+    say(b" at size ");
+    say_number(size);
+    say(b": ");
+    if a.number != 0 {
+        say_refused(a.number);
+        return;
+    }
+    say_first(&room, a.length);
+    say(b"\n");
+}
+
+// How many bytes the blocks of a packet of noughts have.
+fn measured(packet: &[u8], size: u64) {
+    let mut room = [0u8; Blocks::LONGEST];
+    let a = chain::write_blocks(packet, size, &mut room);
+    say(b"packet of ");
+    say_number(packet.len() as u64);
+    say(b" bytes at size ");
+    say_number(size);
+    say(b": ");
+    if a.number != 0 {
+        say_refused(a.number);
+        return;
+    }
+    say_number(a.length);
+    say(b" bytes\n");
 }
 
 fn say_buffer(buffer: u64) {
@@ -331,7 +394,28 @@ fn blocks() {
     taken(b"\x00\x00\x00\x00");
     taken(b"\x00\x00\xFF\x00");
     taken(b"\x00\x00\xFF\x00\x00");
+    taken(b"\x00\x20\x02\x01\x02\x21");
+    taken(b"\x00\x80\x00\x80");
     too_long();
+}
+
+fn runs() {
+    read_run(b"\x00\x20\x02\x01\x02\x21\x00\x40\x01\x03\x42");
+    read_run(b"\x00\x20\x02\x01\x02\x21");
+    read_run(b"\x00\x40\x01\x03\x42");
+    read_run(b"\x00\x00\x00\x00\x00");
+    read_run(b"\x00\x20\x02\x01\x02\x21\x00\x00\x01\x03\x02");
+    read_run(b"\x00\x20\x00\x20\x00\x40\x00\x40");
+    read_run(b"\x00\x20\x02\x01\x02\x21\x00");
+    read_run(b"");
+    written(b"\x01\x02\x03", 2);
+    written(b"\xAA\x55", 1);
+    written(b"", 32);
+    written(b"\x01", 0);
+    written(b"\x01", 255);
+    measured(&[0u8; ROOM], 32);
+    measured(&[0u8; ROOM], 1);
+    measured(&[0u8; ROOM + 1], 1);
 }
 
 // Inputs that tell a wrong program from a right one.
@@ -353,5 +437,6 @@ fn main() {
     other_tables();
     numbers();
     blocks();
+    runs();
     telling();
 }

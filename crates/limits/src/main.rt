@@ -1,5 +1,6 @@
-// Prints the limits of the shift table's type, the families and the list of numbers as C macros:
+// Prints the limits of the shift table's type and of blocks, the families and the list of numbers as C macros:
 // include/windhawker_limits.h is this program's output.
+use chain::Blocks;
 use libc::STDOUT_FILENO;
 use table::Family;
 use table::Number;
@@ -19,13 +20,15 @@ fn print_macro(name: &[u8], value: u64) {
 }
 
 fn print_limits() {
-    print(b"/* The limits of the shift table's type. */\n");
+    print(b"/* The limits of the shift table's type, and of a packet's blocks. */\n");
     print_macro(b"MAX_K", Table::MAX_K);
     print_macro(b"MAX_M", Table::MAX_M);
     print_macro(b"MAX_LENGTH", Table::MAX_LENGTH);
     print_macro(b"MAX_SHIFT", Table::MAX_SHIFT as u64);
     print_macro(b"LONGEST", Table::LONGEST as u64);
     print_macro(b"FAMILIES", Table::FAMILIES);
+    print_macro(b"MAX_INFORMATION", Blocks::MAX_INFORMATION);
+    print_macro(b"BLOCKS_LONGEST", Blocks::LONGEST as u64);
 }
 
 fn print_families() {
@@ -57,10 +60,15 @@ fn print_numbers() {
     print_macro(b"PROGRESS", Number::PROGRESS);
     print_macro(b"LINE", Number::LINE);
     print_macro(b"FAMILY", Number::FAMILY);
+    print_macro(b"BLOCK_TURN", Number::BLOCK_TURN);
+    print_macro(b"BLOCK_END", Number::BLOCK_END);
+    print_macro(b"CUT", Number::CUT);
 }
 
 fn main() {
-    print(b"/* Printed by the program limits, from the constants of the crate table. */\n\n");
+    print(
+        b"/* Printed by the program limits, from the constants of the crates table and chain. */\n\n",
+    );
     print(b"#ifndef WINDHAWKER_LIMITS_H\n#define WINDHAWKER_LIMITS_H\n\n");
     print_limits();
     print(b"\n");

@@ -42,7 +42,12 @@ use Rattle.repair.specs.Promise.{repairChecks}
 use Rattle.look.specs.Promise.{lookChecks}
 use Rattle.card.specs.Block.{blockChecks}
 use Rattle.line.specs.Promise.{sheetChecks}
-use Rattle.card.proofs.LoneBlocks.{taken-exactly-lone, taken-begins}
+use Rattle.card.proofs.IBlocks.{taken-exactly, taken-begins}
+use Rattle.chain.specs.Run.{blockChecksIn, joinedChecks}
+use Rattle.chain.specs.Cut.{writeChecks}
+use Rattle.chain.proofs.RunLaws as RunLaws
+use Rattle.chain.proofs.CutLaws as CutLaws
+use Rattle.chain.proofs.RunAnswers.{decided-at-a-block, run-taken, run-given, written-is-read}
 use Rattle.promises.proofs.OneAnswer.{one-judge}
 use Rattle.promises.specs.Demands
 use Rattle.promises.specs.Demands.{parityIn, written, atHand, everyBit, shapeAndLengths, StandsLower, ComesFrom}
@@ -63,7 +68,11 @@ calls-listed = record {
   rebuild = λ k m l table marks packets before number count after x. (x .numbered, refl, listed-by (rebuildChecks k m l table marks packets before) refl);
   repair = λ k m l table marks packets packet before number after x. (x .numbered, refl, listed-by (repairChecks k m l table marks packets packet before) refl);
   look = λ k m l table marks source survivors rebuilt number buffer start bytes x. (x .numbered, refl, listed-by (lookChecks k m l table marks source survivors rebuilt) refl);
-  block = λ bytes before number count after x. (x .numbered, refl, listed-by (blockChecks bytes (length before)) refl);
+  block = λ bytes before number count sequence more after x. (x .numbered, refl, listed-by (blockChecks bytes (length before)) refl);
+  read-blocks = λ run before number count after x.
+      let at = decided-at-a-block run (length before) number (x .numbered) in
+      (at .0, at .1, at .2, at .3, (at .4, refl, listed-by (blockChecksIn (at .0) (at .1) ++ joinedChecks run (length before)) refl));
+  write-blocks = λ packet size before number count after x. (x .numbered, refl, listed-by (writeChecks packet size (length before)) refl);
   class-sheet = λ input number k m l x. (x .numbered, refl, listed-by (sheetChecks input) refl);
 }
 
@@ -92,7 +101,13 @@ pub repair-keeps : Demands.RepairKeeps
 repair-keeps k m l table marks packets packet before number after x = x .refused
 
 pub block-keeps : Demands.BlockKeeps
-block-keeps block before number count after x refuses = x .refused refuses .1
+block-keeps block before number count sequence more after x refuses = x .refused refuses .3
+
+pub blocks-keep : Demands.BlocksKeep
+blocks-keep run before number count after x refuses = x .refused refuses .1
+
+pub written-keeps : Demands.WrittenKeeps
+written-keeps packet size before number count after x refuses = x .refused refuses .1
 
 -- ---- Demand 2
 
@@ -317,10 +332,28 @@ stalls-exactly k m l table marks packets before number count after x c =
 
 -- D2.4
 pub block-taken-exactly : Demands.BlockTakenExactly
-block-taken-exactly block before number count after are-bytes x = taken-exactly-lone block before are-bytes x
+block-taken-exactly block before number count sequence more after are-bytes x = taken-exactly block before are-bytes x
 
 pub block-gives-its-information : Demands.BlockGivesItsInformation
-block-gives-its-information block before count after info are-bytes x lone = taken-begins block before are-bytes x lone
+block-gives-its-information block before count sequence more after sequence′ more′ info x b = taken-begins block before x b
+
+pub run-once : Demands.RunOnce
+run-once run info info′ r r′ = RunLaws.run-once r r′
+
+pub run-taken-exactly : Demands.RunTakenExactly
+run-taken-exactly run before number count after x = run-taken run before x
+
+pub run-gives-its-information : Demands.RunGivesItsInformation
+run-gives-its-information run before count after info x r = run-given run before x refl r
+
+pub cut-is-a-run : Demands.CutIsARun
+cut-is-a-run = CutLaws.cut-is-a-run
+
+pub cut-length : Demands.CutLength
+cut-length = CutLaws.cut-length
+
+pub read-what-was-written : Demands.ReadWhatWasWritten
+read-what-was-written packet size before count after w room fits number read joined x = written-is-read packet size before after count w room fits x
 
 -- ---- Demand 3
 

@@ -21,11 +21,13 @@ use Rattle.walk.specs.Promise.{Walked}
 use Rattle.walk.specs.Compute.{placedOf, lowerOf, scan, sourceOf, parityOf, fullB, wholeB, walkFrom}
 use Rattle.walk.proofs.Answers.{Answer, answerOf, answer-meets}
 use Rattle.survivors.specs.Packets.{cameParity}
-use Rattle.card.proofs.Examples.{two-bytes-taken, two-bytes-next-taken, no-bytes-taken}
-use Rattle.promises.specs.Examples.{Example, family, largest, judge, encode, walk, rebuild, block, Met, Name, example, examples, AllMet, ExamplesMet}
+use Rattle.card.proofs.Examples.{two-bytes-taken, two-bytes-next-taken, no-bytes-taken, first-of-two-taken}
+use Rattle.chain.proofs.Examples.{run-read, packet-written, byte-by-byte-written, empty-written}
+use Rattle.chain.proofs.Examples.{first-alone-refused, second-first-refused, byte-behind-refused, empty-refused, byte-after-more-refused}
+use Rattle.promises.specs.Examples.{Example, family, largest, judge, encode, walk, rebuild, block, read, write, Met, Name, example, examples, AllMet, ExamplesMet}
 use Rattle.promises.proofs.RebuildAnswers.{bytesB, tidyB, readAlong, Outcome, stalls, strays, differs, reads, outcome-meets}
 
--- what is computed of an example; of a block nothing here
+-- what is computed of an example; of blocks nothing here
 abbrev Computed : Example → Type 0
 Computed (family k m which before table) = (sizeB k m ≡ true) × (insideB maxFamily which ≡ true) × (length before ≡ m * k) × (familyB which k m table ≡ true)
 Computed (largest k m table r) = most m (λ c. most k (entry k table c)) ≡ r
@@ -44,7 +46,9 @@ Computed (rebuild k m l table marks packets before number count after) =
     × (length packets ≡ survivorsBytes D)
     × (length before ≡ sourcesBytes D)
     × Outcome D packets before number count after
-Computed (block bytes before count after) = Met (block bytes before count after)
+Computed (block bytes before count sequence more after) = Met (block bytes before count sequence more after)
+Computed (read run before number count after) = Met (read run before number count after)
+Computed (write packet size before count after) = Met (write packet size before count after)
 
 -- and that it is enough
 met : (e : Example) → Computed e → Met e
@@ -79,7 +83,9 @@ met (walk k m l table marks count whole progress) c =
     subst (λ (a : Answer). Walked k m l table marks 0 (a .count) (a .whole) (a .progress)) (c .1) (answer-meets k m l table marks accepted)
 met (rebuild k m l table marks packets before number count after) c =
     outcome-meets k m l table marks packets before (record { taken = c .0; input = c .1; output = c .2 }) (c .3)
-met (block bytes before count after) c = c
+met (block bytes before count sequence more after) c = c
+met (read run before number count after) c = c
+met (write packet size before count after) c = c
 
 -- what examples compute with: whether a call is accepted, the walk, the packets, what was read from them
 accepting : Unit {0}
@@ -131,6 +137,16 @@ computed Name.rebuild-stuck = (refl, refl, refl, stalls refl)
 computed Name.block-two-bytes = two-bytes-taken
 computed Name.block-two-bytes-next = two-bytes-next-taken
 computed Name.block-no-bytes = no-bytes-taken
+computed Name.block-first-of-two = first-of-two-taken
+computed Name.run-of-two = run-read
+computed Name.run-first-alone = first-alone-refused
+computed Name.run-second-first = second-first-refused
+computed Name.run-byte-behind = byte-behind-refused
+computed Name.run-empty = empty-refused
+computed Name.run-byte-after-more = byte-after-more-refused
+computed Name.cut-by-two = packet-written
+computed Name.cut-by-one = byte-by-byte-written
+computed Name.cut-empty = empty-written
 
 -- an example's answer meets its call's promise
 pub example-met : (n : Name) → Met (example n)

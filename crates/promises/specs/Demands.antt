@@ -5,7 +5,7 @@ use mathlib.Core.List.{List, [], _∷_, _++_}
 use mathlib.Core.Bool.{not}
 use Prim.Native.Nat.{ℕ, _+_, _-_, _*_, _/_, _≤_, _<_}
 use lib.Dec.{leb, ltb}
-use lib.ListN.{length, drop, set}
+use lib.ListN.{length, take, drop, set}
 use Rattle.bits.specs.Sums.{at, count, pick}
 use Rattle.bits.specs.Bits.{Bytes, bitAt, slice, part, joined}
 use Rattle.table.specs.Desk.{Desk, desk, entry, most, mark, sourceBits, sourceBytes, sourcesBytes, survivorsBytes, packetBits, packetBytes, placeOf}
@@ -21,8 +21,11 @@ use Rattle.survivors.specs.Packets.{EncodesTo, cameSource, cameParity}
 use Rattle.rebuild.specs.Promise.{rebuildChecks, Rebuilt}
 use Rattle.repair.specs.Promise.{repairChecks, Repaired}
 use Rattle.look.specs.Promise.{lookChecks, LookedAt}
-use Rattle.card.specs.Block.{blockChecks, LoneBlock}
+use Rattle.card.specs.Block.{maxInformation, blockChecks, IBlock}
 use Rattle.card.specs.Promise.{BlockTaken}
+use Rattle.chain.specs.Run.{BlockRun, blockChecksIn, joinedChecks, Reached, ReadingEnds}
+use Rattle.chain.specs.Cut.{cutInto, writeChecks}
+use Rattle.chain.specs.Promise.{BlocksRead, BlocksWritten}
 use Rattle.line.specs.Promise.{sheetChecks, LineRead}
 
 -- ---- Demand 1
@@ -70,9 +73,17 @@ pub record CallsListed : Type 0 where
   pub look : (k m l : ℕ) (table : List ℕ) (marks source : ℕ) (survivors rebuilt : List ℕ) (number buffer start bytes : ℕ)
       → LookedAt k m l table marks source survivors rebuilt number buffer start bytes
       → MadeInOrder (lookChecks k m l table marks source survivors rebuilt) (1 ∷ 2 ∷ 3 ∷ 6 ∷ 7 ∷ 4 ∷ 4 ∷ []) number
-  pub block : (bytes before : List ℕ) (number count : ℕ) (after : List ℕ)
-      → BlockTaken bytes before number count after
+  pub block : (bytes before : List ℕ) (number count sequence more : ℕ) (after : List ℕ)
+      → BlockTaken bytes before number count sequence more after
       → MadeInOrder (blockChecks bytes (length before)) (11 ∷ 12 ∷ 13 ∷ 14 ∷ 15 ∷ 16 ∷ []) number
+  -- of a run at the block at which the reading ends: each one before it refuses nothing and has M set
+  pub read-blocks : (run before : List ℕ) (number count : ℕ) (after : List ℕ)
+      → BlocksRead run before number count after
+      → (turn : ℕ) × (left : List ℕ) × Reached 0 run turn left × ReadingEnds turn left
+      × MadeInOrder (blockChecksIn turn left ++ joinedChecks run (length before)) (11 ∷ 12 ∷ 13 ∷ 14 ∷ 15 ∷ 20 ∷ 21 ∷ 16 ∷ []) number
+  pub write-blocks : (packet : List ℕ) (size : ℕ) (before : List ℕ) (number count : ℕ) (after : List ℕ)
+      → BlocksWritten packet size before number count after
+      → MadeInOrder (writeChecks packet size (length before)) (36 ∷ 4 ∷ 16 ∷ []) number
   pub class-sheet : (input : List ℕ) (number k m l : ℕ)
       → LineRead (sheetChecks input) input number k m l
       → MadeInOrder (sheetChecks input) (18 ∷ 1 ∷ 2 ∷ []) number
@@ -135,8 +146,22 @@ RepairKeeps =
 
 abbrev pub BlockKeeps : Type 0
 BlockKeeps =
-    (block before : List ℕ) (number count : ℕ) (after : List ℕ)
-    → BlockTaken block before number count after
+    (block before : List ℕ) (number count sequence more : ℕ) (after : List ℕ)
+    → BlockTaken block before number count sequence more after
+    → (number ≡ 0 → ⊥)
+    → after ≡ before
+
+abbrev pub BlocksKeep : Type 0
+BlocksKeep =
+    (run before : List ℕ) (number count : ℕ) (after : List ℕ)
+    → BlocksRead run before number count after
+    → (number ≡ 0 → ⊥)
+    → after ≡ before
+
+abbrev pub WrittenKeeps : Type 0
+WrittenKeeps =
+    (packet : List ℕ) (size : ℕ) (before : List ℕ) (number count : ℕ) (after : List ℕ)
+    → BlocksWritten packet size before number count after
     → (number ≡ 0 → ⊥)
     → after ≡ before
 
@@ -273,21 +298,58 @@ StallsExactly =
     → (number ≡ 8) ↔ ((n : ℕ) → Finishes (desk k m l table marks) n → ⊥)
 
 -- D2.4 A block is taken exactly when it is a lone I-block under ISO/IEC 7816-3 by our rules and fits.
+-- A lone block is an I-block with either N(S), and with or without M.
 abbrev pub BlockTakenExactly : Type 0
 BlockTakenExactly =
-    (block before : List ℕ) (number count : ℕ) (after : List ℕ)
+    (block before : List ℕ) (number count sequence more : ℕ) (after : List ℕ)
     → Bytes block
-    → BlockTaken block before number count after
-    → (number ≡ 0) ↔ ((info : List ℕ) × LoneBlock block info × (length info ≤ length before))
+    → BlockTaken block before number count sequence more after
+    → (number ≡ 0) ↔ ((sequence′ : ℕ) × (more′ : ℕ) × (info : List ℕ) × IBlock block sequence′ more′ info × (length info ≤ length before))
 
--- Then the destination begins with its information, and goes on as it was.
+-- Then the destination begins with its information, and goes on as it was; N(S) and M are told.
 abbrev pub BlockGivesItsInformation : Type 0
 BlockGivesItsInformation =
-    (block before : List ℕ) (count : ℕ) (after info : List ℕ)
-    → Bytes block
-    → BlockTaken block before 0 count after
-    → LoneBlock block info
+    (block before : List ℕ) (count sequence more : ℕ) (after : List ℕ) (sequence′ more′ : ℕ) (info : List ℕ)
+    → BlockTaken block before 0 count sequence more after
+    → IBlock block sequence′ more′ info
+    → (count ≡ length info) × (sequence ≡ sequence′) × (more ≡ more′) × (after ≡ info ++ drop (length info) before)
+
+-- So of a run of blocks. What it carries is one list of bytes;
+abbrev pub RunOnce : Type 0
+RunOnce = (run info info′ : List ℕ) → BlockRun 0 run info → BlockRun 0 run info′ → info ≡ info′
+
+-- it is taken exactly when it is a run and that fits;
+abbrev pub RunTakenExactly : Type 0
+RunTakenExactly =
+    (run before : List ℕ) (number count : ℕ) (after : List ℕ)
+    → BlocksRead run before number count after
+    → (number ≡ 0) ↔ ((info : List ℕ) × BlockRun 0 run info × (length info ≤ length before))
+
+-- and then the destination begins with it, and goes on as it was.
+abbrev pub RunGivesItsInformation : Type 0
+RunGivesItsInformation =
+    (run before : List ℕ) (count : ℕ) (after info : List ℕ)
+    → BlocksRead run before 0 count after
+    → BlockRun 0 run info
     → (count ≡ length info) × (after ≡ info ++ drop (length info) before)
+
+-- A packet that is cut into blocks is a run of that packet, as long as the packet and 4 bytes for each block: one for every size bytes, and one at least.
+abbrev pub CutIsARun : Type 0
+CutIsARun = (size : ℕ) (packet : List ℕ) → 1 ≤ size → size ≤ maxInformation → BlockRun 0 (cutInto size packet) packet
+
+abbrev pub CutLength : Type 0
+CutLength = (size : ℕ) (packet : List ℕ) → 1 ≤ size → length (cutInto size packet) ≡ length packet + 4 * ((length packet - 1) / size + 1)
+
+-- Reading what was written gives the packet.
+abbrev pub ReadWhatWasWritten : Type 0
+ReadWhatWasWritten =
+    (packet : List ℕ) (size : ℕ) (before : List ℕ) (count : ℕ) (after : List ℕ)
+    → BlocksWritten packet size before 0 count after
+    → (room : List ℕ)
+    → length packet ≤ length room
+    → (number read : ℕ) (joined : List ℕ)
+    → BlocksRead (take count after) room number read joined
+    → (number ≡ 0) × (read ≡ length packet) × (joined ≡ packet ++ drop (length packet) room)
 
 -- ---- Demand 3: Take any accepted shift table and k different packets.
 

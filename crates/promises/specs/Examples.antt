@@ -1,6 +1,6 @@
 -- The starred examples of the rules (docs/RULES.md) and some more, each on a line and by name: a call, its input and its answer. proofs/Examples proves that every answer meets its call's promise.
 use mathlib.Core.Path.{_≡_}
-use mathlib.Core.List.{List, [], _∷_}
+use mathlib.Core.List.{List, [], _∷_, _++_}
 use Prim.Native.Nat.{ℕ}
 use lib.ListN.{replicate}
 use Rattle.table.specs.Desk.{desk, reach}
@@ -9,6 +9,7 @@ use Rattle.encode.specs.Promise.{EncodedAll}
 use Rattle.walk.specs.Promise.{Walked}
 use Rattle.rebuild.specs.Promise.{Rebuilt}
 use Rattle.card.specs.Promise.{BlockTaken}
+use Rattle.chain.specs.Promise.{BlocksRead, BlocksWritten}
 
 -- a call with its input and its answer; where a call lends an output, what it held before
 pub data Example : Type 0 where
@@ -18,7 +19,9 @@ pub data Example : Type 0 where
   encode : (k m l : ℕ) (table sources before parities : List ℕ) → Example
   walk : (k m l : ℕ) (table : List ℕ) (marks count whole : ℕ) (progress : List ℕ) → Example
   rebuild : (k m l : ℕ) (table : List ℕ) (marks : ℕ) (packets before : List ℕ) (number count : ℕ) (after : List ℕ) → Example
-  block : (bytes before : List ℕ) (count : ℕ) (after : List ℕ) → Example
+  block : (bytes before : List ℕ) (count sequence more : ℕ) (after : List ℕ) → Example
+  read : (run before : List ℕ) (number count : ℕ) (after : List ℕ) → Example
+  write : (packet : List ℕ) (size : ℕ) (before : List ℕ) (count : ℕ) (after : List ℕ) → Example
 
 -- the answer, with number 0 where no other is said, meets the call's promise
 abbrev pub Met : Example → Type 0
@@ -28,7 +31,9 @@ Met (judge k m table growing) = Judged k m table 0 growing
 Met (encode k m l table sources before parities) = EncodedAll k m l table sources before 0 parities
 Met (walk k m l table marks count whole progress) = Walked k m l table marks 0 count whole progress
 Met (rebuild k m l table marks packets before number count after) = Rebuilt k m l table marks packets before number count after
-Met (block bytes before count after) = BlockTaken bytes before 0 count after
+Met (block bytes before count sequence more after) = BlockTaken bytes before 0 count sequence more after
+Met (read run before number count after) = BlocksRead run before number count after
+Met (write packet size before count after) = BlocksWritten packet size before 0 count after
 
 -- ---- tables
 
@@ -82,7 +87,9 @@ pub data Name : Type 0 where
   walk-both-parities walk-one-parity walk-no-parity walk-seven walk-eight walk-stuck : Name
   rebuild-both-parities rebuild-one-parity rebuild-no-parity rebuild-high-bits : Name
   rebuild-one-above rebuild-past-the-row rebuild-no-sources rebuild-seven rebuild-eight rebuild-stuck : Name
-  block-two-bytes block-two-bytes-next block-no-bytes : Name
+  block-two-bytes block-two-bytes-next block-no-bytes block-first-of-two : Name
+  run-of-two run-first-alone run-second-first run-byte-behind run-empty run-byte-after-more : Name
+  cut-by-two cut-by-one cut-empty : Name
 
 -- nine bytes, and twelve
 abbrev pub nine : List ℕ
@@ -90,6 +97,13 @@ nine = 9 ∷ 9 ∷ 9 ∷ 9 ∷ 9 ∷ 9 ∷ 9 ∷ 9 ∷ 9 ∷ []
 
 abbrev pub twelve : List ℕ
 twelve = 9 ∷ 9 ∷ 9 ∷ nine
+
+-- two blocks, one behind the other: 01 02 with M, and 03
+abbrev pub firstOfTwo : List ℕ
+firstOfTwo = 0x00 ∷ 0x20 ∷ 0x02 ∷ 0x01 ∷ 0x02 ∷ 0x21 ∷ []
+
+abbrev pub secondOfTwo : List ℕ
+secondOfTwo = 0x00 ∷ 0x40 ∷ 0x01 ∷ 0x03 ∷ 0x42 ∷ []
 
 -- bytes that a call is lent are 9; where a call has numbers k, m and L these are its first
 abbrev pub example : Name → Example
@@ -123,9 +137,22 @@ example rebuild-no-sources = rebuild 2 2 1 house 12 (0x03 ∷ 0x00 ∷ 0x05 ∷ 
 example rebuild-seven = rebuild 2 2 1 seven 12 (0x03 ∷ 0x00 ∷ 0x05 ∷ 0x00 ∷ []) (9 ∷ 9 ∷ []) 8 7 (9 ∷ 9 ∷ [])
 example rebuild-eight = rebuild 2 2 1 eight 12 (0x01 ∷ 0x01 ∷ 0x01 ∷ 0x01 ∷ []) (9 ∷ 9 ∷ []) 0 16 (0x01 ∷ 0x01 ∷ [])
 example rebuild-stuck = rebuild 3 3 1 stuck 56 (1 ∷ 2 ∷ 3 ∷ 4 ∷ 5 ∷ 6 ∷ []) (9 ∷ 9 ∷ 9 ∷ []) 8 0 (9 ∷ 9 ∷ 9 ∷ [])
-example block-two-bytes = block (0x00 ∷ 0x00 ∷ 0x02 ∷ 0xAA ∷ 0x55 ∷ 0xFD ∷ []) (1 ∷ 2 ∷ 3 ∷ 4 ∷ []) 2 (0xAA ∷ 0x55 ∷ 3 ∷ 4 ∷ [])
-example block-two-bytes-next = block (0x00 ∷ 0x40 ∷ 0x02 ∷ 0xAA ∷ 0x55 ∷ 0xBD ∷ []) (1 ∷ 2 ∷ 3 ∷ 4 ∷ []) 2 (0xAA ∷ 0x55 ∷ 3 ∷ 4 ∷ [])
-example block-no-bytes = block (0x00 ∷ 0x00 ∷ 0x00 ∷ 0x00 ∷ []) (1 ∷ 2 ∷ 3 ∷ 4 ∷ []) 0 (1 ∷ 2 ∷ 3 ∷ 4 ∷ [])
+example block-two-bytes = block (0x00 ∷ 0x00 ∷ 0x02 ∷ 0xAA ∷ 0x55 ∷ 0xFD ∷ []) (1 ∷ 2 ∷ 3 ∷ 4 ∷ []) 2 0 0 (0xAA ∷ 0x55 ∷ 3 ∷ 4 ∷ [])
+example block-two-bytes-next = block (0x00 ∷ 0x40 ∷ 0x02 ∷ 0xAA ∷ 0x55 ∷ 0xBD ∷ []) (1 ∷ 2 ∷ 3 ∷ 4 ∷ []) 2 1 0 (0xAA ∷ 0x55 ∷ 3 ∷ 4 ∷ [])
+example block-no-bytes = block (0x00 ∷ 0x00 ∷ 0x00 ∷ 0x00 ∷ []) (1 ∷ 2 ∷ 3 ∷ 4 ∷ []) 0 0 0 (1 ∷ 2 ∷ 3 ∷ 4 ∷ [])
+example block-first-of-two = block firstOfTwo (1 ∷ 2 ∷ 3 ∷ 4 ∷ []) 2 0 1 (0x01 ∷ 0x02 ∷ 3 ∷ 4 ∷ [])
+example run-of-two = read (firstOfTwo ++ secondOfTwo) twelve 0 3 (0x01 ∷ 0x02 ∷ 0x03 ∷ nine)
+-- M is set, and nothing comes behind it; N(S) is 1 in the first block; a byte behind the last block
+example run-first-alone = read firstOfTwo twelve 21 0 twelve
+example run-second-first = read secondOfTwo twelve 20 0 twelve
+example run-byte-behind = read (0x00 ∷ 0x00 ∷ 0x00 ∷ 0x00 ∷ 0x00 ∷ []) twelve 21 0 twelve
+-- no block at all; a byte behind a block with M is the next block's
+example run-empty = read [] twelve 11 0 twelve
+example run-byte-after-more = read (firstOfTwo ++ 0x00 ∷ []) twelve 11 0 twelve
+example cut-by-two = write (0x01 ∷ 0x02 ∷ 0x03 ∷ []) 2 twelve 11 (firstOfTwo ++ secondOfTwo ++ 9 ∷ [])
+example cut-by-one =
+    write (0xAA ∷ 0x55 ∷ []) 1 twelve 10 (0x00 ∷ 0x20 ∷ 0x01 ∷ 0xAA ∷ 0x8B ∷ 0x00 ∷ 0x40 ∷ 0x01 ∷ 0x55 ∷ 0x14 ∷ 9 ∷ 9 ∷ [])
+example cut-empty = write [] 32 twelve 4 (0x00 ∷ 0x00 ∷ 0x00 ∷ 0x00 ∷ 9 ∷ 9 ∷ 9 ∷ 9 ∷ 9 ∷ 9 ∷ 9 ∷ 9 ∷ [])
 
 -- the one list
 abbrev pub examples : List Name
@@ -161,6 +188,16 @@ examples =
     ∷ block-two-bytes
     ∷ block-two-bytes-next
     ∷ block-no-bytes
+    ∷ block-first-of-two
+    ∷ run-of-two
+    ∷ run-first-alone
+    ∷ run-second-first
+    ∷ run-byte-behind
+    ∷ run-empty
+    ∷ run-byte-after-more
+    ∷ cut-by-two
+    ∷ cut-by-one
+    ∷ cut-empty
     ∷ []
 
 -- every answer of a list of examples meets its call's promise

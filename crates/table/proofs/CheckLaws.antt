@@ -39,6 +39,10 @@ numbered-by (c ∷ cs) e =
     let w = and-eq-true-iff (ltb 0 (c .0)) (numbersB cs) .0 e in
     (ltb-true 0 (c .0) (w .0), numbered-by cs (w .1))
 
+pub numbered-both : (cs ds : Checks) → Numbered cs → Numbered ds → Numbered (cs ++ ds)
+numbered-both [] ds p q = q
+numbered-both (c ∷ cs) ds p q = (p .0, numbered-both cs ds (p .1) q)
+
 -- the first list refuses
 pub stops : (cs ds : Checks) (n : ℕ) → Checked cs n → (n ≡ 0 → ⊥) → Checked (cs ++ ds) n
 stops [] ds n x h = absurd (h x)
@@ -89,6 +93,15 @@ rest-decides (d ∷ cs) ds n p (inl c) x = absurd (omega (arith, p .0, c .1))
 rest-decides (d ∷ cs) ds n p (inr c) (inl x) = absurd (c .0 (x .0))
 rest-decides (d ∷ cs) ds n p (inr c) (inr x) = rest-decides cs ds n (p .1) (c .1) (x .1)
 
+-- the first list refuses, or it does not, and the second decides
+pub stops-or-goes : (cs ds : Checks) (n : ℕ) → Numbered cs → Checked (cs ++ ds) n → (Checked cs n × (n ≡ 0 → ⊥)) ⊎ (Checked cs 0 × Checked ds n)
+stops-or-goes [] ds n p x = inr (refl, x)
+stops-or-goes (c ∷ cs) ds n p (inl x) = inl (inl x, λ z. omega (arith, p .0, x .1))
+stops-or-goes (c ∷ cs) ds n p (inr x) = elim (stops-or-goes cs ds n (p .1) (x .1)) [
+  | inl y ↦ inl (inr (x .0, y .0), y .1)
+  | inr y ↦ inr (inr (x .0, y .0), y .1)
+]
+
 -- every number of the list is below x
 abbrev pub Below : ℕ → Checks → Type 0
 Below x [] = Unit
@@ -128,7 +141,7 @@ alone : {c : ℕ} {P : Type 0} → 0 < c → Checked ((c, P) ∷ []) 0 → P →
 alone p (inl x) q = omega arith
 alone p (inr x) q = x .0 q
 
-not-outside : (most n : ℕ) → (Outside most n → ⊥) → (1 ≤ n) × (n ≤ most)
+pub not-outside : (most n : ℕ) → (Outside most n → ⊥) → (1 ≤ n) × (n ≤ most)
 not-outside most n h = elim (decLt n 1) [
   | yes l ↦ absurd (h (inl l))
   | no l ↦ elim (decLt most n) [ yes q ↦ absurd (h (inr q)) | no q ↦ (omega arith, omega arith) ]

@@ -43,7 +43,7 @@ impl Number {
     // the table is not m·k bytes, or an entry is above the largest shift
     pub const TABLE: u64 = 3;
 
-    // an input buffer has not the exact length
+    // an input buffer has not the exact length, or a packet to be cut is longer than the longest
     pub const INPUT: u64 = 4;
 
     // an output buffer has not the exact length
@@ -64,22 +64,22 @@ impl Number {
     // no sources encode to these packets
     pub const FOREIGN: u64 = 10;
 
-    // a block has fewer than 4 bytes
+    // a block has fewer than 4 bytes; in a run, fewer are left
     pub const BLOCK_SHORT: u64 = 11;
 
     // a block's LEN is 255, which is reserved
     pub const BLOCK_RESERVED: u64 = 12;
 
-    // a block's length is not LEN + 4
+    // a block's length is not LEN + 4; in a run, fewer bytes than that are left
     pub const BLOCK_LENGTH: u64 = 13;
 
     // the XOR of all bytes of a block is not 0
     pub const BLOCK_SUM: u64 = 14;
 
-    // a block's NAD is not 00, or its PCB is neither 00 nor 40
+    // a block's NAD is not 00, or its PCB is none of 00 20 40 60
     pub const BLOCK_HEADER: u64 = 15;
 
-    // a block's LEN is above the destination's length
+    // the destination is shorter than what is to be put there
     pub const ROOM: u64 = 16;
 
     // progress above the bits of a source, or not zero for a source present or a number above k
@@ -90,6 +90,15 @@ impl Number {
 
     // the family is not one of those that there are
     pub const FAMILY: u64 = 19;
+
+    // a block's N(S) is out of turn in its run
+    pub const BLOCK_TURN: u64 = 20;
+
+    // a run of blocks ends with M set, or goes on after a block without it
+    pub const BLOCK_END: u64 = 21;
+
+    // the size to cut a packet by is not 1 to 254
+    pub const CUT: u64 = 36;
 }
 
 // The families of shift tables, one name each.

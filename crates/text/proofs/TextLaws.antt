@@ -7,6 +7,10 @@ use lib.ListN.{length, getD, take, drop, set, length-append, length-drop, drop-o
 use lib.Seq.{take-at, drop-at, take-all, drop-drop, drop-cons, set-at}
 use Rattle.text.specs.Text.{Front, PutAt}
 
+-- text that fits leaves a buffer as long as it was
+pub front-length : (before text after : List ℕ) → length text ≤ length before → Front before text after → length after ≡ length before
+front-length before text after l f = omega (arith, ap length f, length-append text (drop (length text) before), length-drop (length text) before)
+
 -- more text laid over what stands behind the text at the front
 pub put-front : (before text entry more : List ℕ) (at : ℕ) → at ≡ length text → Front before text entry → at + length more ≤ length entry
     → take at entry ++ ((more ++ drop (length more) (take (length entry - at) (drop at entry))) ++ drop (length entry - at) (drop at entry))

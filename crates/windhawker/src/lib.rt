@@ -7,6 +7,7 @@ ghost use Rattle.rebuild.specs.Promise.{Rebuilt};
 ghost use Rattle.repair.specs.Promise.{Repaired};
 ghost use Rattle.look.specs.Promise.{LookedAt};
 ghost use Rattle.card.specs.Promise.{BlockTaken};
+ghost use Rattle.chain.specs.Promise.{BlocksRead, BlocksWritten};
 
 // The table of a family, of k sources and m parities.
 #[no_mangle]
@@ -139,12 +140,45 @@ pub extern "C" fn whx_next_step(
 
 // One block from a card reader.
 #[no_mangle]
-pub extern "C" fn whx_block(block: &[u8], dest: &mut [u8], length: &mut u64) -> u64
-    ensures { λ r. ⌜ BlockTaken (now (block .entry)) (now (dest .entry)) r (now (length .exit)) (now (dest .exit)) ⌝ }
+pub extern "C" fn whx_block(
+    block: &[u8],
+    dest: &mut [u8],
+    length: &mut u64,
+    sequence: &mut u64,
+    more: &mut u64,
+) -> u64
+    ensures { λ r. ⌜ BlockTaken (now (block .entry)) (now (dest .entry)) r (now (length .exit)) (now (sequence .exit)) (now (more .exit)) (now (dest .exit)) ⌝ }
 {
     let t = card::block(block, dest);
     *length = t.length;
+    *sequence = t.sequence;
+    *more = t.more;
     t.number
+}
+
+// A run of blocks from a card reader.
+#[no_mangle]
+pub extern "C" fn whx_read_blocks(blocks: &[u8], dest: &mut [u8], length: &mut u64) -> u64
+    ensures { λ r. ⌜ BlocksRead (now (blocks .entry)) (now (dest .entry)) r (now (length .exit)) (now (dest .exit)) ⌝ }
+{
+    let j = chain::read_blocks(blocks, dest);
+    *length = j.length;
+    j.number
+}
+
+// A packet as a run of blocks.
+#[no_mangle]
+pub extern "C" fn whx_write_blocks(
+    packet: &[u8],
+    size: u64,
+    dest: &mut [u8],
+    length: &mut u64,
+) -> u64
+    ensures { λ r. ⌜ BlocksWritten (now (packet .entry)) size (now (dest .entry)) r (now (length .exit)) (now (dest .exit)) ⌝ }
+{
+    let w = chain::write_blocks(packet, size, dest);
+    *length = w.length;
+    w.number
 }
 
 // All sources from the packets at hand.

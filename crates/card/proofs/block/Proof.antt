@@ -21,7 +21,7 @@ block-number-requires : tie.Need-block-number-requires
 block-number-requires c κs = search needs
 
 returns : tie.Need-returns
-returns c = answer-refused _ _ _ (c .before .block-number .ensures) (c .if1 .taken) refl (refl, refl)
+returns c = answer-refused _ _ _ (c .before .block-number .ensures) (c .if1 .taken) refl (refl, refl, refl, refl)
 
 information-length-requires : tie.Need-information-length-requires
 information-length-requires c κs = omega (arith, good c .0 .exact)
@@ -41,17 +41,24 @@ part-copy-front-end c = omega (arith, good (c .before .before) .0 .exact)
 copy-front-requires : tie.Need-copy-front-requires
 copy-front-requires c κs = simp (length-take, length-drop) (omega (arith, good (c .before .before .before)))
 
+sequence-of-requires : tie.Need-sequence-of-requires
+sequence-of-requires c κs = omega (arith, good (c .before .before .before .before .before .before) .0 .exact)
+
+more-of-requires : tie.Need-more-of-requires
+more-of-requires c κs = omega (arith, good (c .before .before .before .before .before .before .before) .0 .exact)
+
 same-length : tie.Need-same-length
 same-length c = search needs
 
 returns-2 : tie.Need-returns-2
 returns-2 c =
-    let n = c .before .before .before .before .before .information-length in
-    let at = c .before .before .before .before .before .before in
+    let copied = c .before .before .before .before in
+    let n = copied .before .before .before .information-length in
+    let at = copied .before .before .before .before in
     let s = at .before .before .before .before .args in
     let checks = blockChecks (s .block .now) (length (s .dest .now)) in
     answer-done checks 0 (zero-checked checks _ (at .if1 .left) (at .before .block-number .ensures)) refl
-    (n .ensures .0, c .before .before .copy-front .ensures ∙ laid-over (s .block .now) (s .dest .now) (3 + n .result - 3) (good at .0 .exact) (omega arith))
+    (n .ensures .0, c .before .sequence-of .ensures, c .more-of .ensures, copied .copy-front .ensures ∙ laid-over (s .block .now) (s .dest .now) (3 + n .result - 3) (good at .0 .exact) (omega arith))
 
 pub block-spec : {M : Type 1} → statement M
 block-spec =
@@ -65,5 +72,7 @@ block-spec =
     part-copy-front-start
     part-copy-front-end
     copy-front-requires
+    sequence-of-requires
+    more-of-requires
     same-length
     returns-2)

@@ -1,0 +1,9 @@
+pub mod PartLaws
+pub mod RunLaws
+pub mod ReadingLaws
+pub mod CutLaws
+pub mod WritingLaws
+pub mod RunAnswers
+pub mod OneAnswer
+pub mod Examples
+pub mod RuledOut

@@ -1,0 +1,5 @@
+pub mod Run
+pub mod Reading
+pub mod Cut
+pub mod Writing
+pub mod Promise
