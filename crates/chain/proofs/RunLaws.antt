@@ -226,12 +226,12 @@ pub shorter : (turn : ℕ) (left : List ℕ) → Checked (blockChecksIn turn lef
 shorter turn left c = omega (arith, linked turn left c .fits, length-drop (len left + 4) left)
 
 -- checks of more blocks than there can be change nothing
-enough : (n n′ turn : ℕ) (left : List ℕ) (x : ℕ) → length left ≤ n → length left ≤ n′ → Checked (runChecks n turn left) x → Checked (runChecks n′ turn left) x
-enough zero n′ turn left x l l′ c = elim (ℕ-discrete x 0) [
+pub run-enough : (n n′ turn : ℕ) (left : List ℕ) (x : ℕ) → length left ≤ n → length left ≤ n′ → Checked (runChecks n turn left) x → Checked (runChecks n′ turn left) x
+run-enough zero n′ turn left x l l′ c = elim (ℕ-discrete x 0) [
   | yes z ↦ absurd (omega (arith, shorter turn left (subst (Checked (blockChecksIn turn left)) z c)))
   | no h ↦ run-refused turn left n′ x c h
 ]
-enough (suc n) n′ turn left x l l′ c = go (block-seen turn left n x c) n′ l′ (enough n)
+run-enough (suc n) n′ turn left x l l′ c = go (block-seen turn left n x c) n′ l′ (run-enough n)
   where
     go : BlockSeen turn left n x → (n′ : ℕ) → length left ≤ n′
         → ((n′ turn : ℕ) (left : List ℕ) (x : ℕ) → length left ≤ n → length left ≤ n′ → Checked (runChecks n turn left) x → Checked (runChecks n′ turn left) x)
@@ -251,7 +251,7 @@ rest-goes-on turn left x c e r = go (length left) refl
 
     go : (n : ℕ) → length left ≡ n → Checked (runChecks n turn left) x
     go zero q = absurd (omega (arith, s))
-    go (suc n) q = run-goes-on turn left n x c e (enough (length (behind left)) n (1 - turn) (behind left) x (omega arith) (omega (arith, s)) r)
+    go (suc n) q = run-goes-on turn left n x c e (run-enough (length (behind left)) n (1 - turn) (behind left) x (omega arith) (omega (arith, s)) r)
 
 -- ---- runs and checks
 
