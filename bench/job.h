@@ -15,7 +15,8 @@ enum { LENGTH = WH_MAX_LENGTH };
 typedef struct {
     unsigned k, m, lost;
     uint8_t table[WH_MAX_M * WH_MAX_K]; /* the house table, m * k bytes */
-    size_t parity_bytes;                /* of Windhawker's parities */
+    size_t parity_bytes[WH_MAX_M];      /* of each of Windhawker's parities */
+    size_t all_parities;                /* of all of them */
     uint8_t sources[WH_MAX_K * LENGTH];
 } job;
 
@@ -33,8 +34,8 @@ extern const contestant windhawker, plain, isal, isal_kept, jerasure;
 
 /* The plain contestant's two functions, which are all that a student would write. */
 void plain_encode(unsigned k, unsigned m, size_t l, const uint8_t *table, const uint8_t *sources,
-                  uint8_t *parities, size_t parity_bytes);
+                  uint8_t *parities, const size_t *parity_bytes);
 int plain_rebuild(unsigned k, unsigned m, size_t l, const uint8_t *table, uint64_t marks,
-                  const uint8_t *packets, size_t parity_bytes, uint8_t *sources);
+                  const uint8_t *packets, const size_t *parity_bytes, uint8_t *sources);
 
 #endif

@@ -23,13 +23,14 @@ static void shift_add(uint8_t *parity, const uint8_t *source, size_t l, unsigned
 }
 
 void plain_encode(unsigned k, unsigned m, size_t l, const uint8_t *table, const uint8_t *sources,
-                  uint8_t *parities, size_t parity_bytes)
+                  uint8_t *parities, const size_t *parity_bytes)
 {
-    memset(parities, 0, m * parity_bytes);
     for (unsigned a = 0; a < m; a++) {
+        memset(parities, 0, parity_bytes[a]);
         for (unsigned b = 0; b < k; b++) {
-            shift_add(parities + a * parity_bytes, sources + b * l, l, table[a * k + b]);
+            shift_add(parities, sources + b * l, l, table[a * k + b]);
         }
+        parities += parity_bytes[a];
     }
 }
 
@@ -54,7 +55,7 @@ static void turn_bit(uint8_t *bytes, unsigned p)
 
 /* Sorts the packets: sources at hand to their places, parities at hand into rest. */
 static void sort_packets(decoding *d, unsigned k, unsigned m, size_t l, uint64_t marks,
-                         const uint8_t *packets, size_t parity_bytes, uint8_t *sources)
+                         const uint8_t *packets, const size_t *parity_bytes, uint8_t *sources)
 {
     memset(sources, 0, k * l);
     for (unsigned b = 0; b < k; b++) {
@@ -67,8 +68,8 @@ static void sort_packets(decoding *d, unsigned k, unsigned m, size_t l, uint64_t
     }
     for (unsigned a = 0; a < m; a++) {
         if (marks >> (k + a) & 1) {
-            memcpy(d->rest[d->row_count], packets, parity_bytes);
-            packets += parity_bytes;
+            memcpy(d->rest[d->row_count], packets, parity_bytes[a]);
+            packets += parity_bytes[a];
             d->rows[d->row_count++] = a;
         }
     }
@@ -102,10 +103,10 @@ static void take_bit(decoding *d, unsigned k, const uint8_t *table, unsigned i, 
     }
 }
 
-static bool all_zero(const decoding *d, size_t parity_bytes)
+static bool all_zero(const decoding *d, const size_t *parity_bytes)
 {
     for (unsigned i = 0; i < d->row_count; i++) {
-        for (size_t at = 0; at < parity_bytes; at++) {
+        for (size_t at = 0; at < parity_bytes[d->rows[i]]; at++) {
             if (d->rest[i][at] != 0) {
                 return false;
             }
@@ -116,7 +117,7 @@ static bool all_zero(const decoding *d, size_t parity_bytes)
 
 /* Gives WH_DONE, or WH_STALL, or WH_FOREIGN when no sources encode to the packets. */
 int plain_rebuild(unsigned k, unsigned m, size_t l, const uint8_t *table, uint64_t marks,
-                  const uint8_t *packets, size_t parity_bytes, uint8_t *sources)
+                  const uint8_t *packets, const size_t *parity_bytes, uint8_t *sources)
 {
     decoding d = {.row_count = 0};
     sort_packets(&d, k, m, l, marks, packets, parity_bytes, sources);

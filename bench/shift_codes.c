@@ -20,7 +20,10 @@ static void begin(const job *j)
 /* Puts the packets at hand together: the sources that are not lost, then the parities. */
 static void lose(const job *j)
 {
-    size_t kept = (j->k - j->lost) * (size_t)LENGTH, used = j->lost * j->parity_bytes;
+    size_t kept = (j->k - j->lost) * (size_t)LENGTH, used = 0;
+    for (unsigned a = 0; a < j->lost; a++) {
+        used += j->parity_bytes[a];
+    }
     marks = (((uint64_t)1 << j->k) - 1) << j->lost;
     memcpy(packets, j->sources + j->lost * (size_t)LENGTH, kept);
     memcpy(packets + kept, parities, used);
@@ -49,7 +52,7 @@ static void must(uint64_t number)
 static void library_encode(const job *j)
 {
     must(wh_encode_all(j->k, j->m, LENGTH, j->table, j->m * j->k, j->sources,
-                       j->k * (size_t)LENGTH, parities, j->m * j->parity_bytes));
+                       j->k * (size_t)LENGTH, parities, j->all_parities));
 }
 
 static void library_rebuild(const job *j)

@@ -45,11 +45,12 @@ static int sum_at(const job *j, unsigned a, size_t p)
 static int right_parities(const job *j, const uint8_t *parities)
 {
     for (unsigned a = 0; a < j->m && parities != NULL; a++) {
-        for (size_t p = 0; p < 8 * j->parity_bytes; p++) {
-            if (bit_at(parities + a * j->parity_bytes, p) != sum_at(j, a, p)) {
+        for (size_t p = 0; p < 8 * j->parity_bytes[a]; p++) {
+            if (bit_at(parities, p) != sum_at(j, a, p)) {
                 return 0;
             }
         }
+        parities += j->parity_bytes[a];
     }
     return 1;
 }
@@ -144,17 +145,27 @@ static void print_row(const job *j, int rebuilding)
     fflush(stdout);
 }
 
+static void must(uint64_t number)
+{
+    if (number != WH_DONE) {
+        printf("no job: %s\n", wh_meaning(number));
+        exit(1);
+    }
+}
+
 static job make_job(unsigned k, unsigned m)
 {
     job j = {.k = k, .m = m, .lost = 1};
     uint64_t state = 1;
-    uint64_t number = wh_family_table(k, m, WH_HOUSE, j.table, m * k);
-    wh_measured parity = wh_packet_length(k, m, LENGTH, j.table, m * k, k + 1);
-    if (number != WH_DONE || parity.number != WH_DONE) {
-        printf("there is no house table for k %u, m %u\n", k, m);
-        exit(1);
+    must(wh_family_table(k, m, WH_HOUSE, j.table, m * k));
+    for (unsigned a = 0; a < m; a++) {
+        wh_measured parity = wh_packet_length(k, m, LENGTH, j.table, m * k, k + a + 1);
+        must(parity.number);
+        j.parity_bytes[a] = (size_t)parity.length;
     }
-    j.parity_bytes = (size_t)parity.length;
+    wh_measured all = wh_parities_length(k, m, LENGTH, j.table, m * k);
+    must(all.number);
+    j.all_parities = (size_t)all.length;
     for (size_t i = 0; i < sizeof j.sources; i++) {
         state = state * 6364136223846793005u + 1442695040888963407u;
         j.sources[i] = (uint8_t)(state >> 56);

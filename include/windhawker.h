@@ -10,12 +10,13 @@
  *
  * THE SHIFT TABLE
  *   m rows of k entries, row by row, one byte each, 0 to 64. Entry (a, b) says how many bits
- *   source b is shifted up before it is added (XOR) into parity a. The table's largest entry is r.
+ *   source b is shifted up before it is added (XOR) into parity a. The largest entry of row a is
+ *   r_a: so many bits more than a source parity a has.
  *   wh_family_table makes tables with which any k packets work. There are three families of them.
- *   A smaller r is less room lost at the top of each parity:
- *      WH_HOUSE        1: r is m * (k - 1)
- *      WH_HANKEL       2: r is h * (h - 1) / 2, where h is n / 2 rounded down
- *      WH_VANDERMONDE  3: r is (m - 1) * (k - 1)
+ *   Small entries are less room lost at the top of the parities. The largest of the whole table is
+ *      WH_HOUSE        1: m * (k - 1), in the last row
+ *      WH_HANKEL       2: h * (h - 1) / 2, where h is n / 2 rounded down
+ *      WH_VANDERMONDE  3: (m - 1) * (k - 1), in the last row
  *   With k = m = 8 that is 56, 28 and 49. None is best for all k and m: with k = 2 and m = 8 they
  *   have 8, 10 and 7. The lab uses WH_HOUSE unless it is told otherwise.
  *
@@ -24,11 +25,13 @@
  *   sources b, of source b shifted up by entry (a, b); the bits past that sum are 0.
  *
  * LENGTHS
- *   A source takes l bytes. Each parity takes P bytes, the fewest that hold 8 * l + r bits.
- *   Sources to encode, and rebuilt sources, are k * l bytes, source 1 first. Packets at hand stand
- *   one after another, lowest packet number first, with no gaps. Lengths are exact: one byte too
- *   many is refused like one too few. wh_packet_length and wh_survivors_length do the sums. Only
- *   where blocks are read or written may the destination be longer.
+ *   A source takes l bytes. A parity takes what its own row needs, the fewest bytes that hold
+ *   8 * l + r_a bits, so the parities of one table may differ in length: with rows 0 1 and 0 9 and
+ *   l = 1 they take 2 and 3 bytes. Sources to encode, and rebuilt sources, are k * l bytes, source
+ *   1 first. All parities, and packets at hand, stand one after another, lowest packet number
+ *   first, with no gaps. Lengths are exact: one byte too many is refused like one too few.
+ *   wh_packet_length, wh_parities_length and wh_survivors_length do the sums. Only where blocks are
+ *   read or written may the destination be longer.
  *
  * MARKS
  *   The packets at hand, told as one number: bit 0 is set when packet 1 is there, bit 1 for packet
@@ -74,9 +77,10 @@
  *                            packets at hand take wh_survivors_length; or a packet that is to be
  *                            cut into blocks is above WH_LONGEST bytes
  *      5  WH_OUTPUT          an output buffer has not the exact length: a table takes m * k bytes,
- *                            sources k * l, a packet wh_packet_length, all parities m times that
+ *                            sources k * l, a packet wh_packet_length, all parities
+ *                            wh_parities_length
  *      8  WH_STALL           stalled: no order of steps finishes all missing sources
- *      9  WH_STRAY           a parity at hand has a one above bit 8 * l + r - 1
+ *      9  WH_STRAY           a parity at hand has a one above its last bit, 8 * l + r_a - 1
  *     10  WH_FOREIGN         no sources encode to these packets
  *   and for a block from a card reader, in this order. In a run the next block is looked at only
  *   when the one before it passes and has M set. WH_ROOM comes once, last:
@@ -130,9 +134,9 @@
 
 #include "windhawker_limits.h"
 
-#define WH_VERSION "0.3.0"
+#define WH_VERSION "0.4.0"
 #define WH_VERSION_MAJOR 0
-#define WH_VERSION_MINOR 3
+#define WH_VERSION_MINOR 4
 
 /* What a compiler is told about the calls; one that does not know the words is told nothing.
  * WH_LOOK_AT_IT: the answer is looked at. WH_READS(3, 4): parameter 3 is a buffer that is read, of
@@ -190,7 +194,8 @@ static inline const char *wh_meaning(uint64_t number)
                           "packets at hand take wh_survivors_length, a packet that is to be cut "
                           "into blocks at most " WH_TEXT(WH_LONGEST);
     case WH_OUTPUT: return "an output buffer has not the exact length: a table takes m * k bytes, "
-                           "sources k * l, a packet wh_packet_length, all parities m times that";
+                           "sources k * l, a packet wh_packet_length, all parities "
+                           "wh_parities_length";
     case WH_PACKET: return "no such packet, source or mark: packets are 1 to k + m, "
                            "sources 1 to k, marks the lowest k + m bits";
     case WH_MARKS: return "the marks are not exactly k";
@@ -252,6 +257,9 @@ WH_LOOK_AT_IT
 uint64_t whx_packet_length(uint64_t k, uint64_t m, uint64_t l, const uint8_t *table,
                            uint64_t table_len, uint64_t packet, uint64_t *length);
 WH_LOOK_AT_IT
+uint64_t whx_parities_length(uint64_t k, uint64_t m, uint64_t l, const uint8_t *table,
+                             uint64_t table_len, uint64_t *length);
+WH_LOOK_AT_IT
 uint64_t whx_survivors_length(uint64_t k, uint64_t m, uint64_t l, const uint8_t *table,
                               uint64_t table_len, uint64_t marks, uint64_t *length);
 
@@ -278,7 +286,8 @@ static inline wh_judged wh_judge(uint64_t k, uint64_t m, const uint8_t *table, u
     return judged;
 }
 
-/* Gives the exact bytes of a packet: l for a source, P for a parity. Checks 1 2 3 6. */
+/* Gives the exact bytes of a packet: l for a source, for a parity what its own row of the table
+ * needs. Ask for each: parities of one table may differ. Checks 1 2 3 6. */
 WH_LOOK_AT_IT WH_READS(4, 5)
 static inline wh_measured wh_packet_length(uint64_t k, uint64_t m, uint64_t l, const uint8_t *table,
                                            uint64_t table_len, uint64_t packet)
@@ -286,6 +295,17 @@ static inline wh_measured wh_packet_length(uint64_t k, uint64_t m, uint64_t l, c
     wh_measured measured;
     measured.number = whx_packet_length(k, m, l, wh_read_place(table),
                                         table == NULL ? 0 : table_len, packet, &measured.length);
+    return measured;
+}
+
+/* Gives the exact bytes of all m parities together: what wh_encode_all writes. Checks 1 2 3. */
+WH_LOOK_AT_IT WH_READS(4, 5)
+static inline wh_measured wh_parities_length(uint64_t k, uint64_t m, uint64_t l,
+                                             const uint8_t *table, uint64_t table_len)
+{
+    wh_measured measured;
+    measured.number = whx_parities_length(k, m, l, wh_read_place(table),
+                                          table == NULL ? 0 : table_len, &measured.length);
     return measured;
 }
 
@@ -312,7 +332,8 @@ uint64_t whx_encode_one(uint64_t k, uint64_t m, uint64_t l, const uint8_t *table
                         uint64_t table_len, uint64_t packet, const uint8_t *sources,
                         uint64_t sources_len, uint8_t *out, uint64_t out_len);
 
-/* Writes all m parities, parity 1 first: m * P bytes. Checks 1 2 3 4 5. */
+/* Writes all m parities, parity 1 first, each as long as its own row needs, with no gaps:
+ * wh_parities_length bytes. Checks 1 2 3 4 5. */
 WH_LOOK_AT_IT WH_READS(4, 5) WH_READS(6, 7) WH_WRITES(8, 9)
 static inline uint64_t wh_encode_all(uint64_t k, uint64_t m, uint64_t l, const uint8_t *table,
                                      uint64_t table_len, const uint8_t *sources,

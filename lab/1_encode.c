@@ -23,15 +23,27 @@ static void draw_parity(unsigned a, const uint8_t *row, const uint8_t *sources,
     }
     printf("  parity %u   ", a);
     print_bits(parity, 8 * length);
-    printf(" which is ");
+    printf("%*s which is ", (int)(8 * (L + 1 - length)), "");
     print_bytes(parity, length);
     printf("\n");
+}
+
+/* Each parity takes what its own row of the table needs. */
+static void say_lengths(const size_t lengths[M], size_t all)
+{
+    printf("Parities of");
+    for (unsigned a = 1; a <= M; a++) {
+        printf("%s %zu", a == 1 ? "" : a == M ? " and" : ",", lengths[a - 1]);
+    }
+    printf(" bytes, %zu together: each holds %d bits and its own row's largest shift.\n", all,
+           8 * L);
 }
 
 int main(int words, char **word)
 {
     const uint8_t sources[K * L] = {'s', 'u', 'n', 'f', 'o', 'g', 'i', 'c', 'e'};
     uint8_t table[M * K], parities[M * WH_LONGEST];
+    size_t lengths[M];
     uint64_t family = WH_HOUSE;
 
     if (words > 2 || (words == 2 && !read_number(word[1], UINT64_MAX, &family))) {
@@ -39,16 +51,22 @@ int main(int words, char **word)
         return 2;
     }
     must(wh_family_table(K, M, family, table, sizeof table), "wh_family_table");
-    wh_measured parity = wh_packet_length(K, M, L, table, sizeof table, K + 1);
-    must(parity.number, "wh_packet_length");
-    size_t length = (size_t)parity.length;
-    must(wh_encode_all(K, M, L, table, sizeof table, sources, sizeof sources, parities, M * length),
+    for (unsigned a = 1; a <= M; a++) {
+        wh_measured parity = wh_packet_length(K, M, L, table, sizeof table, K + a);
+        must(parity.number, "wh_packet_length");
+        lengths[a - 1] = (size_t)parity.length;
+    }
+    wh_measured all = wh_parities_length(K, M, L, table, sizeof table);
+    must(all.number, "wh_parities_length");
+    must(wh_encode_all(K, M, L, table, sizeof table, sources, sizeof sources, parities, all.length),
          "wh_encode_all");
 
-    printf("Sources \"sun\", \"fog\" and \"ice\", %d bytes each; parities of %zu bytes.\n", L,
-           length);
+    printf("Sources \"sun\", \"fog\" and \"ice\", %d bytes each.\n", L);
+    say_lengths(lengths, (size_t)all.length);
+    const uint8_t *parity = parities;
     for (unsigned a = 1; a <= M; a++) {
-        draw_parity(a, table + (a - 1) * K, sources, parities + (a - 1) * length, length);
+        draw_parity(a, table + (a - 1) * K, sources, parity, lengths[a - 1]);
+        parity += lengths[a - 1];
     }
     return 0;
 }

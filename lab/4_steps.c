@@ -19,8 +19,8 @@ static const char usage[] =
 typedef struct {
     uint8_t table[M * K];
     uint8_t parities[M * WH_LONGEST];
-    size_t length;               /* bytes of a parity */
-    uint64_t places;             /* bits of a parity that can be ones */
+    size_t starts[M];            /* where each parity stands among them */
+    uint64_t places[M];          /* bits of each that can be ones, by its own row */
     uint64_t progress[WH_MAX_K]; /* bits uncovered of each missing source */
     uint8_t sources[K * L];      /* those bits, and the sources at hand */
 } decoding;
@@ -41,10 +41,15 @@ static uint64_t known(const decoding *d, uint64_t b)
     return at_hand(b) ? BITS : d->progress[b - 1];
 }
 
+static int bit_on_card(const decoding *d, uint64_t a, uint64_t place)
+{
+    return bit_of(d->parities + d->starts[a - 1], place);
+}
+
 /* The bit at a place of parity a once all known bits are taken out, each at its shifted place. */
 static int read_bit(const decoding *d, uint64_t a, uint64_t place)
 {
-    int bit = bit_of(d->parities + (a - 1) * d->length, place);
+    int bit = bit_on_card(d, a, place);
     for (uint64_t b = 1; b <= K; b++) {
         uint64_t shift = entry(d, a, b);
         if (place >= shift && place - shift < known(d, b)) {
@@ -95,14 +100,19 @@ static void begin_line(const char *name)
     }
 }
 
+/* The columns of a parity in the picture: its places and a gap, or none if it is lost. */
+static uint64_t columns(const decoding *d, uint64_t a)
+{
+    return at_hand(K + a) ? d->places[a - 1] + 2 : 0;
+}
+
 static void draw_places(const decoding *d)
 {
     begin_line("place");
-    for (uint64_t i = 0; i < M * (d->places + 2); i++) {
-        uint64_t a = i / (d->places + 2) + 1, place = i % (d->places + 2);
-        if (at_hand(K + a)) {
+    for (uint64_t a = 1; a <= M; a++) {
+        for (uint64_t place = 0; place < columns(d, a); place++) {
             put(' ');
-            put(place < d->places ? '0' + (int)(place % 10) : ' ');
+            put(place < d->places[a - 1] ? '0' + (int)(place % 10) : ' ');
         }
     }
     end_line();
@@ -111,11 +121,10 @@ static void draw_places(const decoding *d)
 static void draw_cards(const decoding *d)
 {
     begin_line("on card");
-    for (uint64_t i = 0; i < M * (d->places + 2); i++) {
-        uint64_t a = i / (d->places + 2) + 1, place = i % (d->places + 2);
-        if (at_hand(K + a)) {
+    for (uint64_t a = 1; a <= M; a++) {
+        for (uint64_t place = 0; place < columns(d, a); place++) {
             put(' ');
-            put(place < d->places ? '0' + bit_of(d->parities + (a - 1) * d->length, place) : ' ');
+            put(place < d->places[a - 1] ? '0' + bit_on_card(d, a, place) : ' ');
         }
     }
     end_line();
@@ -126,7 +135,7 @@ static void draw_source(const decoding *d, uint64_t a, uint64_t b, const wh_step
 {
     uint64_t bare = entry(d, a, b) + known(d, b);
     int marked = step->parity == a && step->source == b;
-    for (uint64_t place = 0; at_hand(K + a) && place < d->places + 2; place++) {
+    for (uint64_t place = 0; place < columns(d, a); place++) {
         put(marked && place == bare ? '[' : marked && place == bare + 1 ? ']' : ' ');
         put(marked && place == bare ? '0' + read_bit(d, a, place) : source_shown(d, a, b, place));
     }
@@ -168,16 +177,20 @@ static void take(decoding *d, const wh_stepped *step)
 static void begin(decoding *d)
 {
     static const uint8_t recorded[K * L] = {'H', 'i'};
-    wh_measured parity = wh_packet_length(K, M, L, d->table, sizeof d->table, K + 1);
-    must(parity.number, "wh_packet_length");
-    d->length = (size_t)parity.length;
-    must(wh_encode_all(K, M, L, d->table, sizeof d->table, recorded, sizeof recorded, d->parities,
-                       M * d->length),
-         "wh_encode_all");
-    for (size_t i = 0; i < M * K; i++) {
-        uint64_t top = BITS + (uint64_t)d->table[i];
-        d->places = d->places < top ? top : d->places;
+    size_t used = 0;
+    for (uint64_t a = 1; a <= M; a++) {
+        wh_measured parity = wh_packet_length(K, M, L, d->table, sizeof d->table, K + a);
+        must(parity.number, "wh_packet_length");
+        d->starts[a - 1] = used;
+        used += (size_t)parity.length;
+        for (uint64_t b = 1; b <= K; b++) {
+            uint64_t top = BITS + entry(d, a, b);
+            d->places[a - 1] = d->places[a - 1] < top ? top : d->places[a - 1];
+        }
     }
+    must(wh_encode_all(K, M, L, d->table, sizeof d->table, recorded, sizeof recorded, d->parities,
+                       used),
+         "wh_encode_all");
     for (uint64_t b = 1; b <= K; b++) {
         if (at_hand(b)) {
             memcpy(d->sources + (b - 1) * L, recorded + (b - 1) * L, L);

@@ -10,9 +10,21 @@
 #include "calls_walk.h"
 
 static const call *const calls[] = {
-    &family_table_call, &judge_call, &packet_length_call, &survivors_length_call, &encode_all_call,
-    &encode_one_call,   &walk_call,  &next_step_call,     &rebuild_call,          &repair_call,
-    &look_call,         &block_call, &read_blocks_call,   &write_blocks_call,
+    &family_table_call,
+    &judge_call,
+    &packet_length_call,
+    &parities_length_call,
+    &survivors_length_call,
+    &encode_all_call,
+    &encode_one_call,
+    &walk_call,
+    &next_step_call,
+    &rebuild_call,
+    &repair_call,
+    &look_call,
+    &block_call,
+    &read_blocks_call,
+    &write_blocks_call,
 };
 
 enum { EVERY_CALL = sizeof calls / sizeof calls[0] };

@@ -28,6 +28,11 @@ static inline answer ask_packet_length(const question *q, const lent *at)
         wh_packet_length(q->k, q->m, q->l, at->table, q->table.length, q->packet));
 }
 
+static inline answer ask_parities_length(const question *q, const lent *at)
+{
+    return measured_answer(wh_parities_length(q->k, q->m, q->l, at->table, q->table.length));
+}
+
 static inline answer ask_survivors_length(const question *q, const lent *at)
 {
     return measured_answer(
@@ -39,6 +44,8 @@ static const call family_table_call = {"family table", ask_family_table, model_f
 static const call judge_call = {"judge", ask_judge, model_judge, draw_for_judge};
 static const call packet_length_call = {"packet length", ask_packet_length, model_packet_length,
                                         draw_for_packet_length};
+static const call parities_length_call = {"parities length", ask_parities_length,
+                                          model_parities_length, draw_for_parities_length};
 static const call survivors_length_call = {"survivors length", ask_survivors_length,
                                            model_survivors_length, draw_for_survivors_length};
 

@@ -77,9 +77,22 @@ static void draw_raised_family_table(question *q)
     }
 }
 
+/* Each row below a bound of its own, so that low rows stand beside high ones. */
+static void draw_uneven_table(question *q)
+{
+    static const uint64_t bounds[] = {1, 2, 8, 10, 18, WH_MAX_SHIFT + 1};
+    q->table.length = (size_t)(q->m * q->k);
+    for (size_t i = 0; i < q->table.length;) {
+        uint64_t bound = bounds[random_below(6)];
+        do {
+            q->table.at[i++] = (uint8_t)random_below(bound);
+        } while (i % q->k != 0);
+    }
+}
+
 void draw_table(question *q)
 {
-    switch (random_below(8)) {
+    switch (random_below(9)) {
     case 0:
     case 1:
     case 2:
@@ -90,6 +103,10 @@ void draw_table(question *q)
         break;
     case 4:
         draw_bent_family_table(q);
+        break;
+    case 5:
+    case 6:
+        draw_uneven_table(q);
         break;
     default:
         set_table_below(q, random_between(1, WH_MAX_SHIFT + 1));
@@ -190,6 +207,11 @@ void draw_for_packet_length(question *q)
     q->packet = random_between(1, q->k + q->m);
 }
 
+void draw_for_parities_length(question *q)
+{
+    draw_shape(q);
+}
+
 void draw_for_survivors_length(question *q)
 {
     draw_shape(q);
@@ -199,7 +221,7 @@ void draw_for_survivors_length(question *q)
 void draw_for_encode_all(question *q)
 {
     draw_shape(q);
-    fit_sources(q, q->m * packet_bytes(q, q->k + 1));
+    fit_sources(q, parities_bytes(q));
 }
 
 void draw_for_encode_one(question *q)

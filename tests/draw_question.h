@@ -35,6 +35,7 @@ void damage(bytes *packets);
 void draw_for_family_table(question *q);
 void draw_for_judge(question *q);
 void draw_for_packet_length(question *q);
+void draw_for_parities_length(question *q);
 void draw_for_survivors_length(question *q);
 void draw_for_encode_all(question *q);
 void draw_for_encode_one(question *q);

@@ -8,7 +8,7 @@
 static void compare_all_packets(question *q)
 {
     q->packet = 0;
-    set_bytes(&q->output, q->m * packet_bytes(q, q->k + 1));
+    set_bytes(&q->output, parities_bytes(q));
     compare(&encode_all_call, q);
     for (q->packet = 1; q->packet <= q->k + q->m; q->packet++) {
         set_bytes(&q->output, packet_bytes(q, q->packet));

@@ -18,6 +18,36 @@ static void encode_80_C0_with_carry(void)
     gives(&encode_one_call, q, done(), "80 03");
 }
 
+static void encode_with_uneven_rows(void)
+{
+    question q = with_input(with_table(2, 2, "00 01 00 09"), "01 01");
+    gives(&encode_all_call, q, done(), "03 00 01 02 00");
+    gives(&encode_all_call, with_input(q, "80 C0"), done(), "00 01 80 80 01");
+    q.packet = 3;
+    gives(&encode_one_call, q, done(), "03 00");
+    q.packet = 4;
+    gives(&encode_one_call, q, done(), "01 02 00");
+}
+
+/* As long as if both were as long as the longer one, or as the shorter. */
+static void encode_with_one_length_for_all_is_5(void)
+{
+    question q = with_input(with_table(2, 2, "00 01 00 09"), "01 01");
+    refuses(&encode_all_call, q, refused(WH_OUTPUT), 6);
+    refuses(&encode_all_call, q, refused(WH_OUTPUT), 4);
+    q.packet = 3;
+    refuses(&encode_one_call, q, refused(WH_OUTPUT), 3);
+    q.packet = 4;
+    refuses(&encode_one_call, q, refused(WH_OUTPUT), 2);
+}
+
+/* The third parity stands behind the longer second one. */
+static void encode_three_rows_of_three_lengths(void)
+{
+    question q = with_input(with_table(2, 3, "00 00 00 09 00 01"), "01 01");
+    gives(&encode_all_call, q, done(), "00  01 02 00  03 00");
+}
+
 static void encode_one_source_is_a_copy(void)
 {
     question q = with_input(example(), "80 C0");
@@ -44,6 +74,9 @@ int main(void)
     static const named_test tests[] = {
         {"example_encode_01_01", encode_01_01},
         {"example_encode_80_C0_with_carry", encode_80_C0_with_carry},
+        {"example_encode_with_uneven_rows", encode_with_uneven_rows},
+        {"example_encode_with_one_length_for_all_is_5", encode_with_one_length_for_all_is_5},
+        {"example_encode_three_rows_of_three_lengths", encode_three_rows_of_three_lengths},
         {"example_encode_one_source_is_a_copy", encode_one_source_is_a_copy},
         {"example_encode_one_of_packet_99_is_6", encode_one_of_packet_99_is_6},
         {"example_encode_input_before_output", encode_input_before_output},

@@ -30,9 +30,47 @@ static void rebuild_no_sources_is_10(void)
     refuses(&rebuild_call, with_marks(example(), 12, "03 00 05 01"), refused(WH_FOREIGN), 2);
 }
 
-static void rebuild_9_goes_by_the_whole_table(void)
+static void rebuild_9_goes_by_the_row(void)
 {
-    refuses(&rebuild_call, with_marks(example(), 12, "00 02 00 00"), refused(WH_FOREIGN), 2);
+    refuses(&rebuild_call, with_marks(example(), 12, "00 02 00 00"), refused(WH_STRAY), 2);
+}
+
+static void rebuild_with_uneven_rows(void)
+{
+    question q = with_table(2, 2, "00 01 00 09");
+    gives(&rebuild_call, with_marks(q, 12, "03 00 01 02 00"), done_with(16), "01 01");
+    gives(&rebuild_call, with_marks(q, 12, "00 01 80 80 01"), done_with(16), "80 C0");
+    gives(&rebuild_call, with_marks(q, 6, "C0 00 01"), done_with(8), "80 C0");
+    gives(&rebuild_call, with_marks(q, 10, "C0 80 80 01"), done_with(8), "80 C0");
+}
+
+/* Bits 8 and 16 are the last of the two parities. */
+static void rebuild_9_with_uneven_rows(void)
+{
+    question q = with_table(2, 2, "00 01 00 09");
+    refuses(&rebuild_call, with_marks(q, 12, "00 02 00 00 00"), refused(WH_STRAY), 2);
+    refuses(&rebuild_call, with_marks(q, 12, "00 00 00 00 02"), refused(WH_STRAY), 2);
+    refuses(&rebuild_call, with_marks(q, 12, "00 01 00 00 00"), refused(WH_FOREIGN), 2);
+    refuses(&rebuild_call, with_marks(q, 12, "00 00 00 00 01"), refused(WH_FOREIGN), 2);
+}
+
+/* Both parities as long as the longer one, or as the shorter. */
+static void rebuild_of_one_length_for_all_is_4(void)
+{
+    question q = with_table(2, 2, "00 01 00 09");
+    refuses(&rebuild_call, with_marks(q, 12, "03 00 00 01 02 00"), refused(WH_INPUT), 2);
+    refuses(&rebuild_call, with_marks(q, 12, "03 00 01 02"), refused(WH_INPUT), 2);
+    refuses(&rebuild_call, with_marks(q, 6, "C0 00 01 00"), refused(WH_INPUT), 2);
+}
+
+/* A row without a shift: its parity is as long as a source, and every one of its bits is a
+ * source's. */
+static void rebuild_9_never_in_a_row_of_noughts(void)
+{
+    question q = with_table(2, 2, "00 00 00 01");
+    gives(&rebuild_call, with_marks(q, 5, "80 40"), done_with(8), "80 C0");
+    refuses(&rebuild_call, with_marks(q, 5, "80 40 00"), refused(WH_INPUT), 2);
+    gives(&rebuild_call, with_marks(q, 5, "00 FF"), done_with(8), "00 FF");
 }
 
 static void rebuild_bit_that_no_step_reads(void)
@@ -92,6 +130,17 @@ static void repair_each_packet(void)
     gives(&repair_call, q, done(), "00 01");
 }
 
+static void repair_each_at_its_own_length(void)
+{
+    question q = with_marks(with_table(2, 2, "00 01 00 09"), 3, "80 C0");
+    q.packet = 3;
+    gives(&repair_call, q, done(), "00 01");
+    refuses(&repair_call, q, refused(WH_OUTPUT), 3);
+    q.packet = 4;
+    gives(&repair_call, q, done(), "80 80 01");
+    refuses(&repair_call, q, refused(WH_OUTPUT), 2);
+}
+
 static void repair_of_packet_at_hand_still_rebuilds(void)
 {
     question q = with_marks(example(), 12, "03 00 05 01");
@@ -126,6 +175,19 @@ static void look_chooses_by_the_mark(void)
     gives(&look_call, q, refused(WH_PACKET), "");
 }
 
+/* The survivors' length goes by the rows of the parities at hand. */
+static void look_with_uneven_rows(void)
+{
+    question q = with_table(2, 2, "00 01 00 09");
+    set_hex(&q.rebuilt, "80 C0");
+    q.source = 2;
+    gives(&look_call, with_marks(q, 6, "C0 00 01"), look_answer(1, 0), "");
+    gives(&look_call, with_marks(q, 10, "C0 80 80 01"), look_answer(1, 0), "");
+    gives(&look_call, with_marks(q, 12, "00 01 80 80 01"), look_answer(2, 1), "");
+    gives(&look_call, with_marks(q, 6, "C0 00 01 00"), refused(WH_INPUT), "");
+    gives(&look_call, with_marks(q, 10, "C0 80 80"), refused(WH_INPUT), "");
+}
+
 int main(void)
 {
     static const named_test tests[] = {
@@ -134,7 +196,11 @@ int main(void)
         {"example_rebuild_marks_3_counts_0", rebuild_marks_3_counts_0},
         {"example_rebuild_stray_one_is_9", rebuild_stray_one_is_9},
         {"example_rebuild_no_sources_is_10", rebuild_no_sources_is_10},
-        {"example_rebuild_9_goes_by_the_whole_table", rebuild_9_goes_by_the_whole_table},
+        {"example_rebuild_9_goes_by_the_row", rebuild_9_goes_by_the_row},
+        {"example_rebuild_with_uneven_rows", rebuild_with_uneven_rows},
+        {"example_rebuild_9_with_uneven_rows", rebuild_9_with_uneven_rows},
+        {"example_rebuild_of_one_length_for_all_is_4", rebuild_of_one_length_for_all_is_4},
+        {"example_rebuild_9_never_in_a_row_of_noughts", rebuild_9_never_in_a_row_of_noughts},
         {"example_rebuild_bit_that_no_step_reads", rebuild_bit_that_no_step_reads},
         {"example_rebuild_zeros_are_steps_too", rebuild_zeros_are_steps_too},
         {"example_rebuild_reads_at_the_shift", rebuild_reads_at_the_shift},
@@ -144,10 +210,12 @@ int main(void)
         {"example_rebuild_three_rows_is_8_after_0", rebuild_three_rows_is_8_after_0},
         {"example_rebuild_marks_before_lengths", rebuild_marks_before_lengths},
         {"example_repair_each_packet", repair_each_packet},
+        {"example_repair_each_at_its_own_length", repair_each_at_its_own_length},
         {"example_repair_of_packet_at_hand_still_rebuilds",
          repair_of_packet_at_hand_still_rebuilds},
         {"example_repair_gives_no_count_on_a_stall", repair_gives_no_count_on_a_stall},
         {"example_look_chooses_by_the_mark", look_chooses_by_the_mark},
+        {"example_look_with_uneven_rows", look_with_uneven_rows},
     };
     return run_named_tests(tests, sizeof tests / sizeof tests[0]);
 }

@@ -94,13 +94,63 @@ static void longest_source_taken_one_more_refused(void)
     gives(&packet_length_call, q, refused(WH_LENGTH), "");
 }
 
+static void expect_length(question q, uint64_t packet, uint64_t length)
+{
+    q.packet = packet;
+    gives(&packet_length_call, q, done_with(length), "");
+}
+
 static void longest_parity_is_reached(void)
 {
     question q = largest_question();
-    q.packet = WH_MAX_K + 1;
-    gives(&packet_length_call, q, done_with(WH_LONGEST - 1), "");
+    expect_length(q, WH_MAX_K + 1, WH_MAX_LENGTH + 1);
+    expect_length(q, WH_MAX_K + WH_MAX_M, WH_LONGEST - 1);
     q.table.at[0] = WH_MAX_SHIFT;
-    gives(&packet_length_call, q, done_with(WH_LONGEST), "");
+    expect_length(q, WH_MAX_K + 1, WH_LONGEST);
+    expect_length(q, WH_MAX_K + 2, WH_MAX_LENGTH + 2);
+}
+
+static void each_parity_at_its_own_length(void)
+{
+    question q = with_table(2, 2, "00 01 00 09");
+    expect_length(q, 1, 1);
+    expect_length(q, 3, 2);
+    expect_length(q, 4, 3);
+    gives(&parities_length_call, q, done_with(5), "");
+    gives(&survivors_length_call, with_marks(q, 12, ""), done_with(5), "");
+    gives(&survivors_length_call, with_marks(q, 6, ""), done_with(3), "");
+    gives(&survivors_length_call, with_marks(q, 10, ""), done_with(4), "");
+}
+
+static void row_of_noughts_takes_a_sources_length(void)
+{
+    question q = house_question(3, 3, 7);
+    set_family_table(&q, WH_VANDERMONDE);
+    expect_length(q, 4, 7);
+    expect_length(q, 5, 8);
+}
+
+/* The table of docs/TESTED.md. */
+static void parities_length_of_8_and_8(void)
+{
+    static const uint64_t lengths[] = {1, 8, WH_MAX_LENGTH};
+    static const uint64_t bytes[WH_FAMILIES][3] = {{43, 99, 483}, {27, 83, 467}, {36, 92, 476}};
+    for (size_t i = 0; i < WH_FAMILIES * 3; i++) {
+        question q = house_question(8, 8, lengths[i % 3]);
+        set_family_table(&q, i / 3 + 1);
+        gives(&parities_length_call, q, done_with(bytes[i / 3][i % 3]), "");
+    }
+}
+
+static void parities_length_refused_in_order(void)
+{
+    question q = largest_question();
+    q.table.at[63] = WH_MAX_SHIFT + 1;
+    gives(&parities_length_call, q, refused(WH_TABLE), "");
+    q.l = 0;
+    gives(&parities_length_call, q, refused(WH_LENGTH), "");
+    q.k = 0;
+    gives(&parities_length_call, q, refused(WH_SIZE), "");
 }
 
 static void marks_16_refused_with_6(void)
@@ -135,6 +185,10 @@ int main(void)
         {"example_largest_entry_taken_one_more_refused", largest_entry_taken_one_more_refused},
         {"example_longest_source_taken_one_more_refused", longest_source_taken_one_more_refused},
         {"example_longest_parity_is_reached", longest_parity_is_reached},
+        {"example_each_parity_at_its_own_length", each_parity_at_its_own_length},
+        {"example_row_of_noughts_takes_a_sources_length", row_of_noughts_takes_a_sources_length},
+        {"example_parities_length_of_8_and_8", parities_length_of_8_and_8},
+        {"example_parities_length_refused_in_order", parities_length_refused_in_order},
         {"example_marks_16_refused_with_6", marks_16_refused_with_6},
         {"example_marks_7_refused_with_7", marks_7_refused_with_7},
         {"example_marks_are_not_cut_to_16_bits", marks_are_not_cut_to_16_bits},

@@ -68,8 +68,9 @@ static int meanings_say_what_to_look_at(void)
 {
     return says(WH_INPUT, "k * l") && says(WH_INPUT, "wh_survivors_length") &&
            says(WH_OUTPUT, "m * k") && says(WH_OUTPUT, "k * l") &&
-           says(WH_OUTPUT, "wh_packet_length") && says(WH_PACKET, "1 to k + m") &&
-           says(WH_PACKET, "1 to k,") && says(WH_PACKET, "marks");
+           says(WH_OUTPUT, "wh_packet_length") && says(WH_OUTPUT, "wh_parities_length") &&
+           says(WH_PACKET, "1 to k + m") && says(WH_PACKET, "1 to k,") &&
+           says(WH_PACKET, "marks");
 }
 
 typedef struct {
@@ -104,6 +105,7 @@ static int null_is_no_bytes(void)
         {"the family table", wh_family_table(2, 2, WH_HOUSE, none, 4), WH_OUTPUT},
         {"judge's table", wh_judge(2, 2, none, 4).number, WH_TABLE},
         {"packet length's table", wh_packet_length(2, 2, 1, none, 4, 3).number, WH_TABLE},
+        {"parities length's table", wh_parities_length(2, 2, 1, none, 4).number, WH_TABLE},
         {"survivors length's table", wh_survivors_length(2, 2, 1, none, 4, 12).number, WH_TABLE},
         {"encode all's table", wh_encode_all(2, 2, 1, none, 4, two, 2, out, 4), WH_TABLE},
         {"encode all's sources", wh_encode_all(2, 2, 1, table, 4, none, 2, out, 4), WH_INPUT},

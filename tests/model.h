@@ -15,6 +15,7 @@ typedef answer model_call(const question *q, uint8_t *output);
 model_call model_family_table;     /* results: none */
 model_call model_judge;            /* results: growing */
 model_call model_packet_length;    /* results: length */
+model_call model_parities_length;  /* results: length */
 model_call model_survivors_length; /* results: length */
 model_call model_encode_all;       /* results: none */
 model_call model_encode_one;       /* results: none */
@@ -40,7 +41,9 @@ void write_family_table(const question *q, uint8_t *out);
 uint64_t entry(const question *q, uint64_t a, uint64_t b);
 uint64_t largest_entry(const question *q);
 uint64_t source_bits(const question *q);
+uint64_t parity_bits(const question *q, uint64_t a); /* up to the last that its row can set */
 uint64_t packet_bytes(const question *q, uint64_t packet);
+uint64_t parities_bytes(const question *q);
 uint64_t survivors_bytes(const question *q);
 bool at_hand(const question *q, uint64_t packet);
 bool missing(const question *q, uint64_t b);

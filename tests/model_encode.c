@@ -53,15 +53,15 @@ answer model_encode_all(const question *q, uint8_t *output)
     if (number != WH_DONE) {
         return refused(number);
     }
-    uint64_t length = packet_bytes(q, q->k + 1);
     if (q->input.length != q->k * q->l) {
         return refused(WH_INPUT);
     }
-    if (q->output.length != q->m * length) {
+    if (q->output.length != parities_bytes(q)) {
         return refused(WH_OUTPUT);
     }
     for (uint64_t a = 1; a <= q->m; a++) {
-        encode_parity(q, q->input.at, a, output + (a - 1) * length);
+        encode_parity(q, q->input.at, a, output);
+        output += packet_bytes(q, q->k + a);
     }
     return done();
 }

@@ -20,11 +20,6 @@ static uint8_t *equation(size_t i)
     return coefficients + i * (unknowns + 1);
 }
 
-static uint64_t parity_bits(const question *q)
-{
-    return source_bits(q) + largest_entry(q);
-}
-
 static uint8_t bit_at_hand(const question *q, uint64_t packet, uint64_t p)
 {
     return bit_of(q->input.at + packet_place(q, packet), p);
@@ -63,9 +58,9 @@ static void write_equations(const question *q)
 {
     equations = 0;
     unknowns = first_unknown(q, q->k + 1);
-    for (uint64_t p = 0; p < parity_bits(q); p++) {
+    for (uint64_t p = 0; p < 8 * WH_LONGEST; p++) {
         for (uint64_t a = 1; a <= q->m; a++) {
-            if (at_hand(q, q->k + a)) {
+            if (at_hand(q, q->k + a) && p < parity_bits(q, a)) {
                 add_equation(q, a, p);
             }
         }
@@ -162,8 +157,9 @@ static bool solve(const question *q, uint8_t *sources)
 
 static bool stray_one(const question *q)
 {
-    for (uint64_t i = q->k + 1; i <= q->k + q->m; i++) {
-        for (uint64_t p = parity_bits(q); at_hand(q, i) && p < 8 * packet_bytes(q, i); p++) {
+    for (uint64_t a = 1; a <= q->m; a++) {
+        uint64_t i = q->k + a;
+        for (uint64_t p = parity_bits(q, a); at_hand(q, i) && p < 8 * packet_bytes(q, i); p++) {
             if (bit_at_hand(q, i, p) == 1) {
                 return true;
             }

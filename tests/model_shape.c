@@ -86,11 +86,22 @@ uint64_t source_bits(const question *q)
     return 8 * q->l;
 }
 
+uint64_t parity_bits(const question *q, uint64_t a)
+{
+    uint64_t furthest = 0;
+    for (uint64_t b = 1; b <= q->k; b++) {
+        if (entry(q, a, b) > furthest) {
+            furthest = entry(q, a, b);
+        }
+    }
+    return source_bits(q) + furthest;
+}
+
 /* The least whole number of bytes that holds a parity's bits, found by counting up. */
-static uint64_t parity_bytes(const question *q)
+static uint64_t parity_bytes(const question *q, uint64_t a)
 {
     uint64_t p = 0;
-    while (8 * p < source_bits(q) + largest_entry(q)) {
+    while (8 * p < parity_bits(q, a)) {
         p++;
     }
     return p;
@@ -98,7 +109,16 @@ static uint64_t parity_bytes(const question *q)
 
 uint64_t packet_bytes(const question *q, uint64_t packet)
 {
-    return packet <= q->k ? q->l : parity_bytes(q);
+    return packet <= q->k ? q->l : parity_bytes(q, packet - q->k);
+}
+
+uint64_t parities_bytes(const question *q)
+{
+    uint64_t sum = 0;
+    for (uint64_t a = 1; a <= q->m; a++) {
+        sum += parity_bytes(q, a);
+    }
+    return sum;
 }
 
 bool at_hand(const question *q, uint64_t packet)
@@ -173,6 +193,13 @@ answer model_packet_length(const question *q, uint8_t *output)
         return refused(number);
     }
     return bad_packet(q) ? refused(WH_PACKET) : done_with(packet_bytes(q, q->packet));
+}
+
+answer model_parities_length(const question *q, uint8_t *output)
+{
+    uint64_t number = shape_number(q);
+    (void)output;
+    return number != WH_DONE ? refused(number) : done_with(parities_bytes(q));
 }
 
 answer model_survivors_length(const question *q, uint8_t *output)

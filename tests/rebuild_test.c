@@ -114,20 +114,59 @@ static void every_lone_parity(void)
     }
 }
 
-/* Two parities of two sources, each byte from a telling set. */
-static void telling_bytes_in_two_parities(void)
+/* Both parities of two sources, each byte from a telling set. */
+static void compare_telling_bytes(const uint8_t table[4])
 {
     static const uint8_t telling[] = {0x00, 0x01, 0x02, 0x03, 0x05, 0x80, 0xC0, 0xFF};
-    static const uint8_t tables[][4] = {{0, 1, 0, 2}, {0, 8, 0, 8}, {1, 2, 1, 3}, {0, 7, 0, 7}};
     question q = house_question(2, 2, 1);
-    for (size_t i = 0; i < 4 * 4096; i++) {
-        memcpy(q.table.at, tables[i / 4096], 4);
-        q.marks = 12;
-        fit_survivors(&q, 2);
-        for (size_t j = 0; j < 4; j++) {
-            q.input.at[j] = telling[i >> (3 * j) & 7];
+    memcpy(q.table.at, table, 4);
+    q.marks = 12;
+    q.input.length = (size_t)survivors_bytes(&q);
+    for (size_t i = 0; i >> 3 * q.input.length == 0; i++) {
+        for (size_t j = 0; j < q.input.length; j++) {
+            q.input.at[j] = telling[i >> 3 * j & 7];
         }
+        set_bytes(&q.output, 2);
         compare(&rebuild_call, &q);
+    }
+}
+
+/* The last two tables have one parity a byte longer than the other. */
+static void telling_bytes_in_two_parities(void)
+{
+    static const uint8_t tables[][4] = {{0, 1, 0, 2}, {0, 8, 0, 8}, {1, 2, 1, 3},
+                                        {0, 7, 0, 7}, {0, 1, 0, 9}, {0, 9, 0, 1}};
+    for (size_t i = 0; i < sizeof tables / sizeof tables[0]; i++) {
+        compare_telling_bytes(tables[i]);
+    }
+}
+
+/* A one at each place of a parity's last byte: WH_STRAY above its own row's last bit, and nowhere
+ * else. */
+static void expect_stray_above_the_row(question *q, uint64_t a)
+{
+    uint64_t packet = q->k + a, place = packet_place(q, packet), bytes = packet_bytes(q, packet);
+    for (uint64_t p = 8 * (bytes - 1); p < 8 * bytes; p++) {
+        q->input.at[place + p / 8] ^= (uint8_t)(1 << (p % 8));
+        uint64_t number = compare(&rebuild_call, q).number;
+        if ((number == WH_STRAY) != (p >= parity_bits(q, a))) {
+            fail("another last bit");
+        }
+        q->input.at[place + p / 8] ^= (uint8_t)(1 << (p % 8));
+    }
+}
+
+static void stray_goes_by_the_row(void)
+{
+    for (uint64_t table = 0; table < FAMILY_TABLES; table++) {
+        question q = family_question(table);
+        draw_marks(&q);
+        fit_survivors(&q, q.k * q.l);
+        for (uint64_t a = 1; a <= q.m; a++) {
+            if (at_hand(&q, q.k + a)) {
+                expect_stray_above_the_row(&q, a);
+            }
+        }
     }
 }
 
@@ -275,6 +314,7 @@ int main(void)
         {"rebuild_all_marks_of_small_shapes", all_marks_of_small_shapes},
         {"rebuild_every_lone_parity", every_lone_parity},
         {"rebuild_telling_bytes_in_two_parities", telling_bytes_in_two_parities},
+        {"rebuild_stray_goes_by_the_row", stray_goes_by_the_row},
         {"rebuild_every_single_bit_turned_over", every_single_bit_turned_over},
         {"rebuild_packets_of_two_logbooks", packets_of_two_logbooks},
         {"rebuild_damaged_packets_of_any_shape", damaged_packets_of_any_shape},

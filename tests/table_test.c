@@ -150,6 +150,48 @@ static void packet_length_spoiled(void)
     compare_spoiled(&packet_length_call, 10000);
 }
 
+/* Every source length, with every pair of largest shifts of two rows. */
+static void parities_length_of_every_pair_of_rows(void)
+{
+    question q = house_question(2, 2, 1);
+    for (q.l = 0; q.l <= WH_MAX_LENGTH + 1; q.l++) {
+        for (uint8_t r1 = 0; r1 <= WH_MAX_SHIFT + 1; r1++) {
+            for (uint8_t r2 = 0; r2 <= WH_MAX_SHIFT + 1; r2++) {
+                memset(q.table.at, 0, 4);
+                q.table.at[random_below(2)] = r1;
+                q.table.at[2 + random_below(2)] = r2;
+                compare(&parities_length_call, &q);
+            }
+        }
+    }
+}
+
+/* What the library says of all is what it says of each, added up. */
+static void parities_length_is_the_sum(void)
+{
+    for (int i = 0; i < 2000; i++) {
+        question q;
+        uint64_t sum = 0;
+        draw_shape(&q);
+        for (q.packet = q.k + 1; q.packet <= q.k + q.m; q.packet++) {
+            sum += compare(&packet_length_call, &q).results[0];
+        }
+        if (compare(&parities_length_call, &q).results[0] != sum) {
+            fail("another sum");
+        }
+    }
+}
+
+static void parities_length_takes_any_numbers(void)
+{
+    compare_any_numbers(&parities_length_call, 20);
+}
+
+static void parities_length_spoiled(void)
+{
+    compare_spoiled(&parities_length_call, 10000);
+}
+
 static void survivors_length_of_all_marks(void)
 {
     question q = {0};
@@ -177,11 +219,12 @@ static void survivors_length_spoiled(void)
 static void slots_are_set_when_refused(void)
 {
     const uint8_t table[4] = {0, 1, 0, 2};
-    uint64_t slots[3] = {77, 77, 77};
+    uint64_t slots[4] = {77, 77, 77, 77};
     expect_number(whx_judge(WH_MAX_K + 1, 2, table, 4, &slots[0]), WH_SIZE);
     expect_number(whx_packet_length(2, 2, 1, table, 4, 5, &slots[1]), WH_PACKET);
     expect_number(whx_survivors_length(2, 2, 1, table, 4, 7, &slots[2]), WH_MARKS);
-    expect_zeros(slots, 3);
+    expect_number(whx_parities_length(2, 2, 0, table, 4, &slots[3]), WH_LENGTH);
+    expect_zeros(slots, 4);
 }
 
 int main(void)
@@ -200,6 +243,10 @@ int main(void)
         {"packet_length_of_every_packet", packet_length_of_every_packet},
         {"packet_length_takes_any_numbers", packet_length_takes_any_numbers},
         {"packet_length_spoiled", packet_length_spoiled},
+        {"parities_length_of_every_pair_of_rows", parities_length_of_every_pair_of_rows},
+        {"parities_length_is_the_sum", parities_length_is_the_sum},
+        {"parities_length_takes_any_numbers", parities_length_takes_any_numbers},
+        {"parities_length_spoiled", parities_length_spoiled},
         {"survivors_length_of_all_marks", survivors_length_of_all_marks},
         {"survivors_length_takes_any_numbers", survivors_length_takes_any_numbers},
         {"survivors_length_spoiled", survivors_length_spoiled},

@@ -79,20 +79,20 @@ static void say_count(const char *name, const shape *s, uint64_t count)
     say("\n");
 }
 
-static void count_encode_all(const shape *s, size_t cells, size_t parity)
+static void count_encode_all(const shape *s, size_t cells, size_t all)
 {
     uint64_t number = WH_DONE;
     uint32_t began = ticks();
     for (int i = 0; i < REPEATS; i++) {
         number |= wh_encode_all(s->k, s->m, s->l, table, cells, sources, (size_t)(s->k * s->l),
-                                parities, (size_t)s->m * parity);
+                                parities, all);
     }
     uint64_t count = instructions_since(began) / REPEATS;
     say_count(number == WH_DONE ? "encode_all" : "refused", s, count);
 }
 
 /* As many sources lost as there are parities for. Those at hand stand before the parities. */
-static void count_rebuild(const shape *s, size_t cells, size_t parity)
+static void count_rebuild(const shape *s, size_t cells)
 {
     size_t lost = (size_t)(s->k < s->m ? s->k : s->m), kept = (size_t)s->k - lost, used = 0;
     uint64_t marks = 0;
@@ -100,10 +100,15 @@ static void count_rebuild(const shape *s, size_t cells, size_t parity)
     for (size_t i = lost; i < (size_t)s->k + lost; i++) {
         marks |= (uint64_t)1 << i;
     }
+    wh_measured at_hand = wh_survivors_length(s->k, s->m, s->l, table, cells, marks);
+    if (at_hand.number != WH_DONE) {
+        say_count("refused", s, at_hand.number);
+        return;
+    }
     for (size_t i = 0; i < kept * (size_t)s->l; i++) {
         packets[used++] = sources[lost * (size_t)s->l + i];
     }
-    for (size_t i = 0; i < lost * parity; i++) {
+    for (size_t i = 0; used < (size_t)at_hand.length; i++) {
         packets[used++] = parities[i];
     }
     uint32_t began = ticks();
@@ -129,13 +134,13 @@ int main(void)
         const shape *s = &shapes[i];
         size_t cells = (size_t)(s->k * s->m);
         uint64_t number = wh_family_table(s->k, s->m, WH_HOUSE, table, cells);
-        wh_measured parity = wh_packet_length(s->k, s->m, s->l, table, cells, s->k + 1);
-        if (number != WH_DONE || parity.number != WH_DONE) {
+        wh_measured all = wh_parities_length(s->k, s->m, s->l, table, cells);
+        if (number != WH_DONE || all.number != WH_DONE) {
             say_count("refused", s, number);
             return 1;
         }
-        count_encode_all(s, cells, (size_t)parity.length);
-        count_rebuild(s, cells, (size_t)parity.length);
+        count_encode_all(s, cells, (size_t)all.length);
+        count_rebuild(s, cells);
     }
     return 0;
 }

@@ -27,6 +27,11 @@ static void packet_length(void)
     compare_drawn(&packet_length_call);
 }
 
+static void parities_length(void)
+{
+    compare_drawn(&parities_length_call);
+}
+
 static void survivors_length(void)
 {
     compare_drawn(&survivors_length_call);
@@ -88,7 +93,7 @@ static void at_the_limits(void)
         if (i % 2 == 1) {
             q.table.at[q.table.length - 1] = WH_MAX_SHIFT;
         }
-        fit_sources(&q, q.m * packet_bytes(&q, q.k + 1));
+        fit_sources(&q, parities_bytes(&q));
         compare(&encode_all_call, &q);
     }
 }
@@ -99,6 +104,7 @@ int main(void)
         {"drawn_family_table", family_table},
         {"drawn_judge", judge},
         {"drawn_packet_length", packet_length},
+        {"drawn_parities_length", parities_length},
         {"drawn_survivors_length", survivors_length},
         {"drawn_encode_all", encode_all},
         {"drawn_encode_one", encode_one},

@@ -18,6 +18,7 @@ typedef enum {
     FAMILY_TABLE,
     JUDGE,
     PACKET_LENGTH,
+    PARITIES_LENGTH,
     SURVIVORS_LENGTH,
     ENCODE_ALL,
     ENCODE_ONE,

@@ -45,6 +45,13 @@ uint64_t whx_packet_length(uint64_t k, uint64_t m, uint64_t l, const uint8_t *ta
     return run_for_one(&e, length);
 }
 
+uint64_t whx_parities_length(uint64_t k, uint64_t m, uint64_t l, const uint8_t *table,
+                             uint64_t table_len, uint64_t *length)
+{
+    errand e = shaped_errand(PARITIES_LENGTH, k, m, l, table, table_len);
+    return run_for_one(&e, length);
+}
+
 uint64_t whx_survivors_length(uint64_t k, uint64_t m, uint64_t l, const uint8_t *table,
                               uint64_t table_len, uint64_t marks, uint64_t *length)
 {

@@ -126,6 +126,8 @@ __attribute__((noinline)) static uint64_t ask(void)
         return judge();
     case PACKET_LENGTH:
         return measure(wh_packet_length(SHAPE, asked.packet));
+    case PARITIES_LENGTH:
+        return measure(wh_parities_length(SHAPE));
     case SURVIVORS_LENGTH:
         return measure(wh_survivors_length(SHAPE, asked.marks));
     case ENCODE_ALL:

@@ -13,6 +13,7 @@ uint64_t ask_all(void)
     number |= wh_family_table(2, 2, WH_HOUSE, output, 4);
     number |= wh_judge(2, 2, table, 4).number;
     number |= wh_packet_length(2, 2, 1, table, 4, 3).number;
+    number |= wh_parities_length(2, 2, 1, table, 4).number;
     number |= wh_survivors_length(2, 2, 1, table, 4, 12).number;
     number |= wh_encode_all(2, 2, 1, table, 4, input, 4, output, 4);
     number |= wh_encode_one(2, 2, 1, table, 4, 3, input, 4, output, 4);

@@ -51,7 +51,7 @@ module _ (D : Desk) where
   pub sum-past : (s : Bits) → ((c p : ℕ) → c < k → bits ≤ p → s c p ≡ 0) → (a q : ℕ) → a < m → packetBits D (k + a) ≤ q → sumOf D s a q ≡ 0
   unfolding sumOf
   sum-past s short a q la h =
-      sum-nought k _ (λ c l. up-high (shift a c) (s c) bits q (λ p lp. short c p l lp) (omega (arith, within-reach D a c la l, parity-packet-bits D a)))
+      sum-nought k _ (λ c l. up-high (shift a c) (s c) bits q (λ p lp. short c p l lp) (omega (arith, within-reach D a c l, parity-packet-bits D a)))
 
   pub parity-lt : (s : Bits) (a q : ℕ) → parity D s a q < 2
   parity-lt s a q = omega arith

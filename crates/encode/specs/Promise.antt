@@ -1,8 +1,8 @@
--- What the calls encode all, encode one, packet length and survivors' length promise.
+-- What the calls encode all, encode one, packet length, parities' length and survivors' length promise.
 use mathlib.Core.Path.{_≡_}
 use mathlib.Core.List.{List, _++_}
 use Prim.Native.Nat.{ℕ, _+_, _-_}
-use Rattle.table.specs.Desk.{desk, packetBytes, survivorsBytes}
+use Rattle.table.specs.Desk.{desk, packetBytes, paritiesBytes, survivorsBytes}
 use Rattle.table.specs.Checks.{Checks, Answered, shapeChecks, markedChecks, numberChecks}
 use Rattle.code.specs.Code.{packetOf, paritiesOf}
 use Rattle.encode.specs.Stages.{allChecks, oneChecks}
@@ -33,6 +33,11 @@ packetLengthChecks k m l table packet = shapeChecks k m l table ++ numberChecks 
 abbrev pub PacketMeasured : ℕ → ℕ → ℕ → List ℕ → ℕ → ℕ → ℕ → Type 0
 PacketMeasured k m l table packet number length =
     Answered (packetLengthChecks k m l table packet) number (length ≡ 0) (length ≡ packetBytes (desk k m l table 0) (packet - 1))
+
+-- Parities' length, 1 2 3: its number; refused, 0; else the bytes of all parities together.
+abbrev pub ParitiesMeasured : ℕ → ℕ → ℕ → List ℕ → ℕ → ℕ → Type 0
+ParitiesMeasured k m l table number length =
+    Answered (shapeChecks k m l table) number (length ≡ 0) (length ≡ paritiesBytes (desk k m l table 0))
 
 -- Survivors' length: its number; refused, 0; else the bytes of all packets present.
 abbrev pub SurvivorsMeasured : ℕ → ℕ → ℕ → List ℕ → ℕ → ℕ → ℕ → Type 0

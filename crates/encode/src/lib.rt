@@ -5,7 +5,7 @@ ghost use mathlib.Core.Path.{_≡_};
 ghost use Prim.Native.Nat.{_+_, _<_};
 ghost use Rattle.table.specs.Table.{Within, deskOf};
 ghost use Rattle.encode.specs.Stages.{AllGiven, EncodingGiven, OneGiven, LengthGiven};
-ghost use Rattle.encode.specs.Promise.{EncodedAll, EncodedOne, PacketMeasured, SurvivorsMeasured};
+ghost use Rattle.encode.specs.Promise.{EncodedAll, EncodedOne, PacketMeasured, ParitiesMeasured, SurvivorsMeasured};
 
 // A number, and a length in bytes.
 pub struct LengthAnswer {
@@ -134,6 +134,23 @@ pub fn packet_length(k: u64, m: u64, l: u64, table: &[u8], packet: u64) -> Lengt
     let t = o.table;
     let shifts = t.shifts;
     one_length(o.shape, &shifts, packet)
+}
+
+// The bytes of all parities together.
+pub fn parities_length(k: u64, m: u64, l: u64, table: &[u8]) -> LengthAnswer
+    ensures { λ r. ⌜ ParitiesMeasured k m l (now (table .entry)) (r .number) (r .length) ⌝ }
+{
+    let o = checks::open_shape(k, m, l, table, 0);
+    if o.number != 0 {
+        return no_length(o.number);
+    }
+    let t = o.table;
+    let shifts = t.shifts;
+    let bytes = table::packets::parities_bytes(o.shape, &shifts);
+    LengthAnswer {
+        number: 0,
+        length: bytes as u64,
+    }
 }
 
 // The bytes of all packets that the marks name.

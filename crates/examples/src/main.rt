@@ -10,6 +10,13 @@ ghost use Prim.Native.Nat.{_<_};
 // The house table of k = 2 and m = 2.
 const HOUSE: [u8; 4] = [0, 1, 0, 2];
 
+// Rows that differ much in length, and what stands before their lines.
+const UNEVEN: [u8; 4] = [0, 1, 0, 9];
+
+fn say_uneven() {
+    say(b"table (0,1),(0,9): ");
+}
+
 // Room for what a card gives.
 const ROOM: usize = 64;
 
@@ -126,14 +133,52 @@ fn family(k: u64, m: u64, family: u64, rows: &mut [u8]) {
     say(b"\n");
 }
 
-// All parities of two sources.
-fn encoded(sources: &[u8]) {
-    let mut parities = [0u8; 4];
-    let number = encode::encode_all(2, 2, 1, &HOUSE, sources, &mut parities);
+// All parities of two sources, into so much room.
+fn encoded(table: &[u8], sources: &[u8], parities: &mut [u8]) {
+    let number = encode::encode_all(2, 2, 1, table, sources, parities);
     say(b"encode ");
     say_bytes(sources);
     say(b": ");
-    say_answer(number, &parities);
+    say_answer(number, parities);
+}
+
+fn encoded_house(sources: &[u8]) {
+    let mut parities = [0u8; 4];
+    encoded(&HOUSE, sources, &mut parities);
+}
+
+fn encoded_uneven(sources: &[u8]) {
+    let mut parities = [0u8; 5];
+    say_uneven();
+    encoded(&UNEVEN, sources, &mut parities);
+}
+
+// The rest of a line that has a number, or a length.
+fn say_length(number: u64, length: u64) {
+    if number != 0 {
+        say_refused(number);
+        return;
+    }
+    say_number(length);
+    say(b" bytes\n");
+}
+
+// The bytes of a packet where rows differ much in length.
+fn packet_long(packet: u64) {
+    let a = encode::packet_length(2, 2, 1, &UNEVEN, packet);
+    say_uneven();
+    say(b"packet ");
+    say_number(packet);
+    say(b": ");
+    say_length(a.number, a.length);
+}
+
+// The bytes of all parities there.
+fn parities_long() {
+    let a = encode::parities_length(2, 2, 1, &UNEVEN);
+    say_uneven();
+    say(b"all parities: ");
+    say_length(a.number, a.length);
 }
 
 fn say_whole(whole: u64) {
@@ -336,8 +381,8 @@ fn looked<'a>(source: u64, survivors: &'a [u8], rebuilt: &'a [u8]) {
 fn house_tables() {
     let mut rows = [0u8; 9];
     family(3, 3, Family::HOUSE, &mut rows);
-    encoded(b"\x01\x01");
-    encoded(b"\x80\xC0");
+    encoded_house(b"\x01\x01");
+    encoded_house(b"\x80\xC0");
     rebuilt_two(&HOUSE, 12, b"\x03\x00\x05\x00");
     walked(&HOUSE, 2, 9);
     walked(&HOUSE, 2, 3);
@@ -356,6 +401,19 @@ fn families() {
     family(3, 3, Family::VANDERMONDE, &mut nine);
     family(3, 3, 4, &mut nine);
     family(0, 3, 0, &mut nine);
+}
+
+// Each parity at its own length; and an output for both at the longer one's.
+fn own_lengths() {
+    let mut six = [0u8; 6];
+    packet_long(3);
+    packet_long(4);
+    parities_long();
+    encoded_uneven(b"\x01\x01");
+    encoded_uneven(b"\x80\xC0");
+    say_uneven();
+    say(b"into six bytes: ");
+    encoded(&UNEVEN, b"\x01\x01", &mut six);
 }
 
 // A table of two rows that has no growing differences, with both parities at hand.
@@ -434,6 +492,7 @@ fn telling() {
 fn main() {
     house_tables();
     families();
+    own_lengths();
     other_tables();
     numbers();
     blocks();

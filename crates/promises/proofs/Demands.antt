@@ -2,7 +2,7 @@
 use mathlib.Core.Path.{_≡_, refl, sym, ap, _∙_, ap₂, subst}
 use mathlib.Core.Logic.{inl, inr, _⊎_}
 use mathlib.Core.List.{List, _++_, []}
-use mathlib.Core.Bool.{Bool}
+use mathlib.Core.Bool.{Bool, true}
 use Prim.Native.Nat.{ℕ, _+_, _-_, _*_, _/_, _%_, _≤_, _<_, zero, suc}
 use native.Mathlib.Omega.{arith}
 use native.Mathlib.Decide.{decLt}
@@ -12,18 +12,19 @@ use lib.ListN.{length}
 use Rattle.bits.specs.Sums.{at, pick}
 use Rattle.bits.specs.Bits.{Bytes, bitAt, joined}
 use Rattle.bits.proofs.ByteLaws.{part-joined, joined-length}
-use Rattle.table.specs.Desk.{Desk, desk, sourcesBytes, packetBytes, paritiesBytes, survivorsBytes, placeOf, Grows, mark}
+use Rattle.bits.proofs.SliceLaws.{slice-past}
+use Rattle.table.specs.Desk.{Desk, desk, sourcesBytes, reach, packetBits, packetBytes, paritiesBytes, survivorsBytes, placeOf, Grows, mark}
 use Rattle.table.specs.Checks.{Checks, Checked, theList, sizeChecks, familyNumberChecks, tableChecks, outputChecks, shapeChecks, inputChecks, markedChecks}
 use Rattle.family.specs.Promise.{familyChecks, FamilyWritten, Judged, judgeChecks}
 use Rattle.table.proofs.CheckLaws.{numbered-by, checked-once, passed, goes, neither, sized, family-in-range, exactly-long, lengths-exact, rest-decides, flag-up, flag-holds, flag-down, flag-low}
 use Rattle.table.proofs.ListLaws.{listed-by, number-in-order, listed-one-way}
 use Rattle.family.proofs.FamilyTables.{family-grows, family-low, hankel-table-largest}
-use Rattle.table.proofs.ShapeLaws.{marked-count}
-use Rattle.table.proofs.PacketLaws.{source-bytes-low}
+use Rattle.table.proofs.ShapeLaws.{shaped, marked-parts, marked-count}
+use Rattle.table.proofs.PacketLaws.{source-full, source-bytes-low, within-reach, reach-is-an-entry, source-packet-bits, source-packet-bytes, parity-packet-bits, parity-packet-bytes}
 use Rattle.code.specs.Code.{parity, sourcesOf, packetOf, packetsOf}
 use Rattle.encode.specs.Stages.{allChecks}
 use Rattle.encode.specs.Promise.{encodeChecks, EncodedAll, encodeOneChecks, packetLengthChecks}
-use Rattle.code.proofs.CodeLaws.{desk-short, packet-size, packet-source-bits, packet-parity-bits, packet-ignores-present, sum-past}
+use Rattle.code.proofs.CodeLaws.{desk-short, by-kind, packet-size, packet-source-bits, packet-parity-bits, packet-ignores-present, sum-past}
 use Rattle.walk.specs.Walk.{Whole, Next, none, one}
 use Rattle.walk.proofs.Runs.{same-end, run-split}
 use Rattle.walk.proofs.Ends.{whole-finishes, none-finishes, finished-ended, ended-finishes, one-count, finishes-ends, some-end}
@@ -33,7 +34,7 @@ use Rattle.walk.specs.Read.{presentOf}
 use Rattle.walk.proofs.ReadLaws.{presentOf-blank, presentOf-kept, own-encodes, knows-none, readBy-knows, only}
 use Rattle.walk.specs.Ends.{Ended, Finishes}
 use Rattle.walk.specs.Promise.{stepChecks}
-use Rattle.survivors.specs.Packets.{EncodesTo, cameSource, cameParity}
+use Rattle.survivors.specs.Packets.{came, cameSource, cameParity, Stray, EncodesTo}
 use Rattle.rebuild.specs.Stages.{decodeChecks}
 use Rattle.rebuild.specs.Promise.{rebuildChecks, Rebuilt}
 use Rattle.survivors.proofs.CameLaws.{encodes-bits, encoded-not-stray}
@@ -50,7 +51,7 @@ use Rattle.chain.proofs.CutLaws as CutLaws
 use Rattle.chain.proofs.RunAnswers.{decided-at-a-block, run-taken, run-given, written-is-read}
 use Rattle.promises.proofs.OneAnswer.{one-judge}
 use Rattle.promises.specs.Demands
-use Rattle.promises.specs.Demands.{parityIn, written, atHand, everyBit, shapeAndLengths, StandsLower, ComesFrom}
+use Rattle.promises.specs.Demands.{parityIn, written, atHand, everyBit, shapeAndLengths, OnePastTheRow, StandsLower, ComesFrom}
 
 -- ---- Demand 1
 
@@ -60,6 +61,7 @@ calls-listed = record {
   family = λ k m family before number after x. (x .numbered, refl, listed-by (familyChecks k m family before) refl);
   judge = λ k m table number growing x. (x .numbered, refl, listed-by (judgeChecks k m table) refl);
   packet-length = λ k m l table packet number bytes x. (x .numbered, refl, listed-by (packetLengthChecks k m l table packet) refl);
+  parities-length = λ k m l table number bytes x. (x .numbered, refl, listed-by (shapeChecks k m l table) refl);
   survivors-length = λ k m l table marks number bytes x. (x .numbered, refl, listed-by (markedChecks k m l table marks) refl);
   encode-all = λ k m l table sources before number after x. (x .numbered, refl, listed-by (encodeChecks k m l table sources before) refl);
   encode-one = λ k m l table packet sources before number after x. (x .numbered, refl, listed-by (encodeOneChecks k m l table packet sources before) refl);
@@ -112,15 +114,37 @@ written-keeps packet size before number count after x refuses = x .refused refus
 -- ---- Demand 2
 
 -- D2.1
+pub parity-takes-its-row : Demands.ParityTakesItsRow
+parity-takes-its-row k m l table marks a accepted la =
+    let D = desk k m l table marks in
+    let bits = parity-packet-bits D a in
+    let bytes = parity-packet-bytes D (k + a) (omega arith) in
+    record {
+      r = reach D a;
+      none-above = within-reach D a;
+      one-of-them = reach-is-an-entry D a (shaped k m l table accepted .k-low);
+      bits = sym bits;
+      holds = omega (arith, bits, bytes);
+      least = λ n enough. omega (arith, bits, bytes);
+    }
+
 module _ (k m l : ℕ) (table sources before after : List ℕ) (x : EncodedAll k m l table sources before 0 after) where
   abbrev E : Desk
   E = desk k m l table 0
 
-  -- the sources have their length
-  encoded-size : length sources ≡ sourcesBytes E
-  encoded-size =
+  -- the sources and the output have their lengths
+  encoded-sizes : (length sources ≡ sourcesBytes E) × (length before ≡ paritiesBytes E)
+  encoded-sizes =
       let lengths = passed (shapeChecks k m l table) (allChecks E sources before) (numbered-by (shapeChecks k m l table) refl) (x .numbered) .1 in
-      lengths-exact (sourcesBytes E) (paritiesBytes E) sources before lengths .0
+      lengths-exact (sourcesBytes E) (paritiesBytes E) sources before lengths
+
+  encoded-size : length sources ≡ sourcesBytes E
+  encoded-size = encoded-sizes .0
+
+  -- and so has what is written
+  written-size : length after ≡ paritiesBytes E
+  unfolding packetsOf placeOf
+  written-size = ap length (x .done refl) ∙ joined-length (leb k) (packetOf E sources) (packetBytes E) (packet-size E sources encoded-size) (k + m)
 
   -- a parity stands in its place
   encoded-parity : (i : ℕ) → k ≤ i → i < k + m → parityIn k m l table after i ≡ packetOf E sources i
@@ -137,6 +161,30 @@ pub noughts-past-the-sum : Demands.NoughtsPastTheSum
 noughts-past-the-sum k m l table sources a q la past =
     let D = desk k m l table 0 in
     ap (λ v. v % 2) (sum-past D (sourcesOf D sources) (desk-short k m l table 0 sources) a q la past)
+
+pub parities-length-is-the-place : Demands.ParitiesLengthIsThePlace
+parities-length-is-the-place k m l table bytes x =
+    (x .done refl, λ sources before after y. written-size k m l table sources before after y ∙ sym (x .done refl))
+
+pub five-is-for-another-length : Demands.FiveIsForAnotherLength
+five-is-for-another-length k m l table bytes x sources before number after y long =
+    let room = x .done refl in
+    ((λ e same. asked e (same ∙ room) lengths), (λ other. checked-once lent number 5 lengths (inr ((λ short. short long), inl ((λ same. other (same ∙ sym room)), refl)))))
+  where
+    D : Desk
+    D = desk k m l table 0
+
+    lent : Checks
+    lent = allChecks D sources before
+
+    -- the shape is accepted, so the lengths decide
+    lengths : Checked lent number
+    lengths = rest-decides (shapeChecks k m l table) lent number (numbered-by (shapeChecks k m l table) refl) (x .numbered) (y .numbered)
+
+    asked : number ≡ 5 → length before ≡ paritiesBytes D → Checked lent number → ⊥
+    asked e same (inl c) = c .0 long
+    asked e same (inr (_, inl c)) = c .0 same
+    asked e same (inr (_, inr c)) = omega (arith, c .1)
 
 pub one-parity-is-the-sum : Demands.OneParityIsTheSum
 one-parity-is-the-sum k m l table sources before after a la x q =
@@ -315,6 +363,55 @@ refuses-exactly k m l table marks packets before number count after x c walks =
     which n (inr (_, inl d)) = inl (d .1)
     which n (inr (_, inr (_, inl d))) = inr (d .1)
     which n (inr (_, inr (_, inr d))) = absurd (d .0 n)
+
+-- a stray one stands in a parity, since a source fills its bytes, and past its own row
+stray-past-the-row : (k m l : ℕ) (table : List ℕ) (marks : ℕ) (packets : List ℕ) → Stray (desk k m l table marks) packets → OnePastTheRow k m l table marks packets
+unfolding cameParity
+stray-past-the-row k m l table marks packets (i, li, here, (p, lp, set)) =
+    by-kind G (λ j. j < k + m → mark marks j ≡ true → packetBits G j ≤ p → bitAt (came G packets j) p ≡ 1 → OnePastTheRow k m l table marks packets) of-source of-parity i li here lp set
+  where
+    G : Desk
+    G = desk k m l table marks
+
+    of-source : (c : ℕ) → c < k → c < k + m → mark marks c ≡ true → packetBits G c ≤ p → bitAt (came G packets c) p ≡ 1 → OnePastTheRow k m l table marks packets
+    of-source c lc _ _ past set =
+        let none = slice-past packets (placeOf G (mark marks) c) (packetBytes G c) p (omega (arith, source-full l, source-packet-bits G c lc, source-packet-bytes G c lc)) in
+        absurd (omega (arith, none, set))
+
+    of-parity : (a : ℕ) → k + a < k + m → mark marks (k + a) ≡ true → packetBits G (k + a) ≤ p → bitAt (came G packets (k + a)) p ≡ 1 → OnePastTheRow k m l table marks packets
+    of-parity a la held past set = (a, omega arith, held, (p, (λ b lb. omega (arith, within-reach G a b lb, parity-packet-bits G a)), set))
+
+past-the-row-stray : (k m l : ℕ) (table : List ℕ) (marks : ℕ) (packets : List ℕ) → 1 ≤ k → OnePastTheRow k m l table marks packets → Stray (desk k m l table marks) packets
+unfolding cameParity
+past-the-row-stray k m l table marks packets some (a, la, held, (p, past, set)) =
+    let G = desk k m l table marks in
+    let furthest = reach-is-an-entry G a some in
+    (k + a, omega arith, held, (p, omega (arith, parity-packet-bits G a, furthest .2, past (furthest .0) (furthest .1)), set))
+
+pub nine-goes-by-the-row : Demands.NineGoesByTheRow
+nine-goes-by-the-row k m l table marks packets before number count after x c walks =
+    let d = decoded k m l table marks packets before c number (x .numbered) in
+    ((λ e. stray-past-the-row k m l table marks packets (strays e d)), (λ w. which (past-the-row-stray k m l table marks packets some w) d))
+  where
+    G : Desk
+    G = desk k m l table marks
+
+    some : 1 ≤ k
+    some =
+        let lengths = inputChecks (survivorsBytes G) packets ++ outputChecks (sourcesBytes G) before in
+        let marked = passed (markedChecks k m l table marks) lengths (numbered-by (markedChecks k m l table marks) refl) c .0 in
+        shaped k m l table (marked-parts k m l table marks marked .0) .k-low
+
+    strays : number ≡ 9 → Checked (decodeChecks G packets) number → Stray G packets
+    strays e (inl d) = absurd (omega (arith, d .1))
+    strays e (inr (_, inl d)) = d .0
+    strays e (inr (_, inr (_, inl d))) = absurd (omega (arith, d .1))
+    strays e (inr (_, inr (_, inr d))) = absurd (omega (arith, d .1))
+
+    which : Stray G packets → Checked (decodeChecks G packets) number → number ≡ 9
+    which s (inl d) = absurd (walks (d .1))
+    which s (inr (_, inl d)) = d .1
+    which s (inr (_, inr (n, _))) = absurd (n s)
 
 pub stalls-exactly : Demands.StallsExactly
 stalls-exactly k m l table marks packets before number count after x c =

@@ -2,7 +2,7 @@
 use mathlib.Core.Path.{_≡_, refl, subst}
 use mathlib.Core.Bool.{true}
 use mathlib.Core.List.{List, [], _∷_, _++_}
-use Prim.Native.Nat.{_+_, _*_}
+use Prim.Native.Nat.{_+_, _-_, _*_}
 use native.Mathlib.Omega.{arith}
 use lib.Dec.{leb}
 use lib.ListN.{length}
@@ -11,9 +11,9 @@ use Rattle.bits.specs.Bits.{bit, bitAt, up, fromBits, bytesOf, joined}
 use Rattle.table.specs.Desk.{desk, sourcesBytes, paritiesBytes, survivorsBytes, entry, most, reach, packetBits, packetBytes, placeOf}
 use Rattle.table.specs.Limits.{maxFamily}
 use Rattle.table.specs.Family.{triangle, bowl, hankelShift, familyShift}
-use Rattle.table.specs.Checks.{inputChecks, outputChecks, sizeChecks, familyNumberChecks, tableChecks, shapeChecks}
+use Rattle.table.specs.Checks.{inputChecks, outputChecks, sizeChecks, familyNumberChecks, numberChecks, tableChecks, shapeChecks}
 use Rattle.table.proofs.CheckLaws.{numbered-by, goes, exactly-long}
-use Rattle.table.proofs.Taken.{lowB, insideB, sizeB, tableB, shapeB, takenB, size-taken, family-taken, table-taken, shape-taken, taken-checked}
+use Rattle.table.proofs.Taken.{lowB, insideB, sizeB, tableB, shapeB, takenB, size-taken, family-taken, number-taken, table-taken, shape-taken, taken-checked}
 use Rattle.family.proofs.Tested.{familyB, stepB, growsB, flagOf, family-table, grows-flag}
 use Rattle.code.specs.Code.{sumOf, sourcesOf, packetOf, packetsOf, paritiesOf}
 use Rattle.walk.specs.Read.{put}
@@ -24,7 +24,7 @@ use Rattle.survivors.specs.Packets.{cameParity}
 use Rattle.card.proofs.Examples.{two-bytes-taken, two-bytes-next-taken, no-bytes-taken, first-of-two-taken}
 use Rattle.chain.proofs.Examples.{run-read, packet-written, byte-by-byte-written, empty-written}
 use Rattle.chain.proofs.Examples.{first-alone-refused, second-first-refused, byte-behind-refused, empty-refused, byte-after-more-refused}
-use Rattle.promises.specs.Examples.{Example, family, largest, judge, encode, walk, rebuild, block, read, write, Met, Name, example, examples, AllMet, ExamplesMet}
+use Rattle.promises.specs.Examples.{Example, family, largest, judge, packet-length, parities-length, encode, walk, rebuild, block, read, write, Met, Name, example, examples, AllMet, ExamplesMet}
 use Rattle.promises.proofs.RebuildAnswers.{bytesB, tidyB, readAlong, Outcome, stalls, strays, differs, reads, outcome-meets}
 
 -- what is computed of an example; of blocks nothing here
@@ -32,6 +32,9 @@ abbrev Computed : Example → Type 0
 Computed (family k m which before table) = (sizeB k m ≡ true) × (insideB maxFamily which ≡ true) × (length before ≡ m * k) × (familyB which k m table ≡ true)
 Computed (largest k m table r) = most m (λ c. most k (entry k table c)) ≡ r
 Computed (judge k m table growing) = (sizeB k m ≡ true) × (tableB k m table ≡ true) × (growing ≡ flagOf (growsB k m table))
+Computed (packet-length k m l table packet bytes) =
+    (shapeB k m l table ≡ true) × (insideB (k + m) packet ≡ true) × (bytes ≡ packetBytes (desk k m l table 0) (packet - 1))
+Computed (parities-length k m l table bytes) = (shapeB k m l table ≡ true) × (bytes ≡ paritiesBytes (desk k m l table 0))
 Computed (encode k m l table sources before parities) =
     let D = desk k m l table 0 in
     (shapeB k m l table ≡ true)
@@ -61,11 +64,21 @@ met (family k m which before table) c =
       refused = λ n. absurd (n refl);
       done = λ _. family-table which k m table (c .3);
     }
-met (largest k m table r) c = λ a. c
+met (largest k m table r) c = c
 met (judge k m table growing) c = record {
   numbered = goes (sizeChecks k m) (tableChecks k m table) 0 (numbered-by (sizeChecks k m) refl) (size-taken k m (c .0)) (table-taken k m table (c .1));
   refused = λ n. absurd (n refl);
   done = λ _. grows-flag k m table (growsB k m table) growing refl (c .2);
+}
+met (packet-length k m l table packet bytes) c = record {
+  numbered = goes (shapeChecks k m l table) (numberChecks (k + m) packet) 0 (numbered-by (shapeChecks k m l table) refl) (shape-taken k m l table (c .0)) (number-taken (k + m) packet (c .1));
+  refused = λ n. absurd (n refl);
+  done = λ _. c .2;
+}
+met (parities-length k m l table bytes) c = record {
+  numbered = shape-taken k m l table (c .0);
+  refused = λ n. absurd (n refl);
+  done = λ _. c .1;
 }
 met (encode k m l table sources before parities) c =
     let D = desk k m l table 0 in
@@ -113,8 +126,13 @@ computed Name.family-hankel-eight = (refl, refl, refl, refl)
 computed Name.family-vandermonde = (refl, refl, refl, refl)
 computed Name.largest-house = refl
 computed Name.largest-hankel = refl
+computed Name.length-low-row = (refl, refl, refl)
+computed Name.length-high-row = (refl, refl, refl)
+computed Name.lengths-uneven = (refl, refl)
 computed Name.encode-ones = (refl, refl, refl, refl)
 computed Name.encode-high-bits = (refl, refl, refl, refl)
+computed Name.encode-uneven-ones = (refl, refl, refl, refl)
+computed Name.encode-uneven-high-bits = (refl, refl, refl, refl)
 computed Name.judge-house = (refl, refl, refl)
 computed Name.judge-seven = (refl, refl, refl)
 computed Name.judge-eight = (refl, refl, refl)
@@ -129,7 +147,7 @@ computed Name.rebuild-one-parity = (refl, refl, refl, reads refl refl refl refl)
 computed Name.rebuild-no-parity = (refl, refl, refl, reads refl refl refl refl)
 computed Name.rebuild-high-bits = (refl, refl, refl, reads refl refl refl refl)
 computed Name.rebuild-one-above = (refl, refl, refl, strays refl (3, omega arith, refl, (10, omega arith, refl)))
-computed Name.rebuild-past-the-row = (refl, refl, refl, differs refl refl 0 9 (omega arith) refl refl)
+computed Name.rebuild-past-the-row = (refl, refl, refl, strays refl (2, omega arith, refl, (9, omega arith, refl)))
 computed Name.rebuild-no-sources = (refl, refl, refl, differs refl refl 1 8 (omega arith) refl refl)
 computed Name.rebuild-seven = (refl, refl, refl, stalls refl)
 computed Name.rebuild-eight = (refl, refl, refl, reads refl refl refl refl)

@@ -15,7 +15,7 @@ use Rattle.table.proofs.Taken.{lowB, insideB, sizeB, tableB, shapeB, size-taken
 use Rattle.family.specs.Promise.{familyChecks, FamilyWritten, Judged}
 use Rattle.code.specs.Code.{sumOf, sourcesOf, packetOf}
 use Rattle.encode.specs.Stages.{lendChecks}
-use Rattle.encode.specs.Promise.{EncodedAll, EncodedOne, encodeOneChecks, PacketMeasured, SurvivorsMeasured}
+use Rattle.encode.specs.Promise.{EncodedAll, EncodedOne, encodeOneChecks, PacketMeasured, ParitiesMeasured, SurvivorsMeasured}
 use Rattle.walk.specs.Walk.{Next, none, one}
 use Rattle.walk.specs.Promise.{Stepped, Walked}
 use Rattle.walk.proofs.OneAnswer.{one-walk}
@@ -24,10 +24,10 @@ use Rattle.rebuild.specs.Promise.{Rebuilt}
 use Rattle.rebuild.proofs.OneAnswer.{one-rebuilt}
 use Rattle.repair.specs.Stages.{repairLengthsChecks, repairLentChecks, repairNamedChecks}
 use Rattle.repair.specs.Promise.{Repaired, repairChecks}
-use Rattle.promises.proofs.OneAnswer.{one-family, one-judge, one-encode-all}
-use Rattle.promises.proofs.Demands.{repair-gives-the-packet}
+use Rattle.promises.proofs.OneAnswer.{one-family, one-judge, one-packet-length, one-parities-length, one-encode-all}
+use Rattle.promises.proofs.Demands.{five-is-for-another-length, repair-gives-the-packet}
 use Rattle.promises.proofs.Stepping.{last, more, stepping-is-the-walk}
-use Rattle.promises.specs.Examples.{Name, house, house3, hankelTall, seven, eight, nine, twelve}
+use Rattle.promises.specs.Examples.{Name, house, house3, hankelTall, uneven, seven, eight, five, nine, twelve}
 use Rattle.promises.proofs.Examples.{example-met}
 
 -- ---- the buffers and packets of the examples
@@ -106,7 +106,7 @@ no-judge-always-yes x = let e = one-judge 2 2 seven x (example-met Name.judge-se
 pub no-judge-always-no : Judged 2 2 house 0 0 → ⊥
 no-judge-always-no x = let e = one-judge 2 2 house x (example-met Name.judge-house) in omega (arith, e .1)
 
--- ---- packet length and survivors' length
+-- ---- packet length, parities' length and survivors' length
 
 -- what lengths and packets compute with
 measuring : Unit {0}
@@ -122,10 +122,9 @@ pub no-parity-as-long-as-a-source : PacketMeasured 2 2 1 house 3 0 1 → ⊥
 unfolding measuring
 no-parity-as-long-as-a-source x = omega (arith, x .done refl)
 
--- a parity's length by its own row, where all are as long as the longest
-pub no-length-by-the-row : PacketMeasured 2 2 1 (0 ∷ 1 ∷ 0 ∷ 9 ∷ []) 3 0 2 → ⊥
-unfolding measuring
-no-length-by-the-row x = omega (arith, x .done refl)
+-- a parity as long as the longest, where each takes what its own row needs
+pub no-length-by-the-whole-table : PacketMeasured 2 2 1 uneven 3 0 3 → ⊥
+no-length-by-the-whole-table x = let e = one-packet-length 2 2 1 uneven 3 x (example-met Name.length-low-row) in omega (arith, e .1)
 
 -- a source's length in bits
 pub no-length-in-bits : PacketMeasured 2 2 1 house 1 0 8 → ⊥
@@ -139,6 +138,13 @@ no-packet-nought x = refuses (passed (shapeChecks 2 2 1 house) (numberChecks 4 0
     refuses : Checked (numberChecks 4 0) 0 → ⊥
     refuses (inl c) = omega (arith, c .1)
     refuses (inr c) = c .0 (inl (omega arith))
+
+-- all parities as long as the longest; and the sources counted with them
+pub no-parities-as-long-as-the-longest : ParitiesMeasured 2 2 1 uneven 0 6 → ⊥
+no-parities-as-long-as-the-longest x = let e = one-parities-length 2 2 1 uneven x (example-met Name.lengths-uneven) in omega (arith, e .1)
+
+pub no-parities-with-the-sources : ParitiesMeasured 2 2 1 uneven 0 7 → ⊥
+no-parities-with-the-sources x = let e = one-parities-length 2 2 1 uneven x (example-met Name.lengths-uneven) in omega (arith, e .1)
 
 -- survivors as long as the sources
 pub no-survivors-as-long-as-the-sources : SurvivorsMeasured 2 2 1 house 12 0 2 → ⊥
@@ -184,6 +190,17 @@ pub no-last-parity-first : EncodedAll 2 2 1 house (1 ∷ 1 ∷ []) four 0 (0x05 
 no-last-parity-first x =
     let e = one-encode-all 2 2 1 house (1 ∷ 1 ∷ []) four x (example-met Name.encode-ones) in
     omega (arith, ap (λ l. at l 0) (e .1))
+
+-- one that asks for 6 bytes where the parities take 2 and 3: six of them taken, and five refused
+pub no-six-bytes-for-five : {after : List ℕ} → EncodedAll 2 2 1 uneven (1 ∷ 1 ∷ []) (9 ∷ five) 0 after → ⊥
+no-six-bytes-for-five {after} x =
+    let five-asked = five-is-for-another-length 2 2 1 uneven 5 (example-met Name.lengths-uneven) (1 ∷ 1 ∷ []) (9 ∷ five) 0 after x refl in
+    omega (arith, five-asked .1 (λ e. omega (arith, e)))
+
+pub no-five-bytes-refused : {after : List ℕ} → EncodedAll 2 2 1 uneven (1 ∷ 1 ∷ []) five 5 after → ⊥
+no-five-bytes-refused x =
+    let e = one-encode-all 2 2 1 uneven (1 ∷ 1 ∷ []) five x (example-met Name.encode-uneven-ones) in
+    omega (arith, e .0)
 
 -- 4 checked before 6: packet 99 of sources of a wrong length
 pub no-four-before-six : {after : List ℕ} → EncodedOne 2 2 1 house 99 [] two 4 after → ⊥
@@ -299,10 +316,10 @@ no-full-count-at-a-stall {number} {after} x =
     let e = one-rebuilt 2 2 1 seven 12 parities two number 16 after 8 7 two x (example-met Name.rebuild-seven) in
     omega (arith, e .1)
 
--- 9 for a one above the row's last bit that is not above the table's
-pub no-stray-by-the-row : {count : ℕ} {after : List ℕ} → Rebuilt 2 2 1 house 12 (0x00 ∷ 0x02 ∷ 0x00 ∷ 0x00 ∷ []) two 9 count after → ⊥
-no-stray-by-the-row {count} {after} x =
-    let e = one-rebuilt 2 2 1 house 12 (0x00 ∷ 0x02 ∷ 0x00 ∷ 0x00 ∷ []) two 9 count after 10 0 two x (example-met Name.rebuild-past-the-row) in
+-- 10 for a one above the row's last bit, because it is not above the whole table's
+pub no-stray-by-the-whole-table : {count : ℕ} {after : List ℕ} → Rebuilt 2 2 1 house 12 (0x00 ∷ 0x02 ∷ 0x00 ∷ 0x00 ∷ []) two 10 count after → ⊥
+no-stray-by-the-whole-table {count} {after} x =
+    let e = one-rebuilt 2 2 1 house 12 (0x00 ∷ 0x02 ∷ 0x00 ∷ 0x00 ∷ []) two 10 count after 9 0 two x (example-met Name.rebuild-past-the-row) in
     omega (arith, e .0)
 
 -- 10 checked before 9: no sources encode to a packet with a one above its last bit either

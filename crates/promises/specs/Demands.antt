@@ -2,17 +2,17 @@
 use mathlib.Core.Path.{_≡_}
 use mathlib.Core.Logic.{_↔_, _≢_, _⊎_}
 use mathlib.Core.List.{List, [], _∷_, _++_}
-use mathlib.Core.Bool.{not}
+use mathlib.Core.Bool.{true, not}
 use Prim.Native.Nat.{ℕ, _+_, _-_, _*_, _/_, _≤_, _<_}
 use lib.Dec.{leb, ltb}
 use lib.ListN.{length, take, drop, set}
 use Rattle.bits.specs.Sums.{at, count, pick}
 use Rattle.bits.specs.Bits.{Bytes, bitAt, slice, part, joined}
 use Rattle.table.specs.Desk.{Desk, desk, entry, most, mark, sourceBits, sourceBytes, sourcesBytes, survivorsBytes, packetBits, packetBytes, placeOf}
-use Rattle.table.specs.Checks.{Checks, Checked, theList, InOrder, numbersOf, Listed, Refuses, markedChecks, inputChecks, outputChecks}
+use Rattle.table.specs.Checks.{Checks, Checked, theList, InOrder, numbersOf, Listed, Refuses, shapeChecks, markedChecks, inputChecks, outputChecks}
 use Rattle.family.specs.Promise.{familyChecks, FamilyWritten, judgeChecks, Judged}
 use Rattle.code.specs.Code.{Bits, parity, sourcesOf, packetOf, survivorsOf, Source, Encodes}
-use Rattle.encode.specs.Promise.{encodeChecks, EncodedAll, encodeOneChecks, EncodedOne, packetLengthChecks, PacketMeasured, SurvivorsMeasured}
+use Rattle.encode.specs.Promise.{encodeChecks, EncodedAll, encodeOneChecks, EncodedOne, packetLengthChecks, PacketMeasured, ParitiesMeasured, SurvivorsMeasured}
 use Rattle.walk.specs.Walk.{Order, Gone, Held, Free, Stuck, Run, Whole}
 use Rattle.walk.specs.Read.{presentOf, readBy}
 use Rattle.walk.specs.Promise.{Walked, stepChecks, Stepped}
@@ -49,6 +49,9 @@ pub record CallsListed : Type 0 where
   pub packet-length : (k m l : ℕ) (table : List ℕ) (packet number bytes : ℕ)
       → PacketMeasured k m l table packet number bytes
       → MadeInOrder (packetLengthChecks k m l table packet) (1 ∷ 2 ∷ 3 ∷ 6 ∷ []) number
+  pub parities-length : (k m l : ℕ) (table : List ℕ) (number bytes : ℕ)
+      → ParitiesMeasured k m l table number bytes
+      → MadeInOrder (shapeChecks k m l table) (1 ∷ 2 ∷ 3 ∷ []) number
   pub survivors-length : (k m l : ℕ) (table : List ℕ) (marks number bytes : ℕ)
       → SurvivorsMeasured k m l table marks number bytes
       → MadeInOrder (markedChecks k m l table marks) (1 ∷ 2 ∷ 3 ∷ 6 ∷ 7 ∷ []) number
@@ -169,6 +172,22 @@ WrittenKeeps =
 
 -- D2.1 Encoding is the polynomial sum of the published papers.
 
+-- A parity takes what its own row needs.
+
+-- r is the largest entry of row a: none is above it, and it is one of them; parity a has the bits of a source and r more, in the fewest bytes that hold them
+pub record TakesItsRow (k m l : ℕ) (table : List ℕ) (marks a : ℕ) : Type 0 where
+  pub r : ℕ
+  pub none-above : (b : ℕ) → b < k → entry k table a b ≤ r
+  pub one-of-them : (b : ℕ) × (b < k) × (r ≡ entry k table a b)
+  pub bits : packetBits (desk k m l table marks) (k + a) ≡ sourceBits l + r
+  pub holds : sourceBits l + r ≤ 8 * packetBytes (desk k m l table marks) (k + a)
+  pub least : (n : ℕ) → sourceBits l + r ≤ 8 * n → packetBytes (desk k m l table marks) (k + a) ≤ n
+
+-- For every accepted shape and whatever packets are at hand.
+abbrev pub ParityTakesItsRow : Type 0
+ParityTakesItsRow =
+    (k m l : ℕ) (table : List ℕ) (marks a : ℕ) → Checked (shapeChecks k m l table) 0 → a < m → TakesItsRow k m l table marks a
+
 -- bit q of parity a of these sources: the sum over all sources, shifted up by their entries, modulo 2
 abbrev pub sumBit : ℕ → ℕ → ℕ → List ℕ → List ℕ → ℕ → ℕ → ℕ
 sumBit k m l table sources a q = let D = desk k m l table 0 in parity D (sourcesOf D sources) a q
@@ -189,6 +208,23 @@ ParitiesAreTheSum =
 abbrev pub NoughtsPastTheSum : Type 0
 NoughtsPastTheSum =
     (k m l : ℕ) (table sources : List ℕ) (a q : ℕ) → a < m → packetBits (desk k m l table 0) (k + a) ≤ q → sumBit k m l table sources a q ≡ 0
+
+-- What it writes is as long as parities' length says, the place behind the last parity; and 5 is for an output of any other length.
+abbrev pub ParitiesLengthIsThePlace : Type 0
+ParitiesLengthIsThePlace =
+    (k m l : ℕ) (table : List ℕ) (bytes : ℕ)
+    → ParitiesMeasured k m l table 0 bytes
+    → (bytes ≡ placeOf (desk k m l table 0) (leb k) (k + m))
+    × ((sources before after : List ℕ) → EncodedAll k m l table sources before 0 after → length after ≡ bytes)
+
+abbrev pub FiveIsForAnotherLength : Type 0
+FiveIsForAnotherLength =
+    (k m l : ℕ) (table : List ℕ) (bytes : ℕ)
+    → ParitiesMeasured k m l table 0 bytes
+    → (sources before : List ℕ) (number : ℕ) (after : List ℕ)
+    → EncodedAll k m l table sources before number after
+    → length sources ≡ sourcesBytes (desk k m l table 0)
+    → (number ≡ 5) ↔ (length before ≡ bytes → ⊥)
 
 -- Encode one: a parity's bits are the sum, a source's are the source's.
 abbrev pub OneParityIsTheSum : Type 0
@@ -288,6 +324,24 @@ RefusesExactly =
     → Checked (shapeAndLengths k m l table marks packets before) 0
     → (number ≡ 8 → ⊥)
     → ((number ≡ 9) ⊎ (number ≡ 10)) ↔ ((x : List ℕ) → EncodesTo (desk k m l table marks) packets x → ⊥)
+
+-- The first of the two numbers is for a one past the last bit that a parity's own row can set.
+
+-- a parity at hand has a one above every place that an entry of its row shifts a source's bit up to
+abbrev pub OnePastTheRow : ℕ → ℕ → ℕ → List ℕ → ℕ → List ℕ → Type 0
+OnePastTheRow k m l table marks packets =
+    (a : ℕ)
+    × (a < m)
+    × (mark marks (k + a) ≡ true)
+    × ((p : ℕ) × ((b : ℕ) → b < k → sourceBits l + entry k table a b ≤ p) × (cameParity (desk k m l table marks) packets a p ≡ 1))
+
+abbrev pub NineGoesByTheRow : Type 0
+NineGoesByTheRow =
+    (k m l : ℕ) (table : List ℕ) (marks : ℕ) (packets before : List ℕ) (number count : ℕ) (after : List ℕ)
+    → Rebuilt k m l table marks packets before number count after
+    → Checked (shapeAndLengths k m l table marks packets before) 0
+    → (number ≡ 8 → ⊥)
+    → (number ≡ 9) ↔ OnePastTheRow k m l table marks packets
 
 -- It stalls exactly when no order of steps finishes all missing sources.
 abbrev pub StallsExactly : Type 0

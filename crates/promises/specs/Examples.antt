@@ -3,9 +3,9 @@ use mathlib.Core.Path.{_≡_}
 use mathlib.Core.List.{List, [], _∷_, _++_}
 use Prim.Native.Nat.{ℕ}
 use lib.ListN.{replicate}
-use Rattle.table.specs.Desk.{desk, reach}
+use Rattle.table.specs.Desk.{desk, most, reach}
 use Rattle.family.specs.Promise.{FamilyWritten, Judged}
-use Rattle.encode.specs.Promise.{EncodedAll}
+use Rattle.encode.specs.Promise.{EncodedAll, PacketMeasured, ParitiesMeasured}
 use Rattle.walk.specs.Promise.{Walked}
 use Rattle.rebuild.specs.Promise.{Rebuilt}
 use Rattle.card.specs.Promise.{BlockTaken}
@@ -16,6 +16,8 @@ pub data Example : Type 0 where
   family : (k m which : ℕ) (before table : List ℕ) → Example
   largest : (k m : ℕ) (table : List ℕ) (r : ℕ) → Example
   judge : (k m : ℕ) (table : List ℕ) (growing : ℕ) → Example
+  packet-length : (k m l : ℕ) (table : List ℕ) (packet bytes : ℕ) → Example
+  parities-length : (k m l : ℕ) (table : List ℕ) (bytes : ℕ) → Example
   encode : (k m l : ℕ) (table sources before parities : List ℕ) → Example
   walk : (k m l : ℕ) (table : List ℕ) (marks count whole : ℕ) (progress : List ℕ) → Example
   rebuild : (k m l : ℕ) (table : List ℕ) (marks : ℕ) (packets before : List ℕ) (number count : ℕ) (after : List ℕ) → Example
@@ -26,8 +28,10 @@ pub data Example : Type 0 where
 -- the answer, with number 0 where no other is said, meets the call's promise
 abbrev pub Met : Example → Type 0
 Met (family k m which before table) = FamilyWritten k m which before 0 table
-Met (largest k m table r) = (a : ℕ) → reach (desk k m 0 table 0) a ≡ r
+Met (largest k m table r) = most m (reach (desk k m 0 table 0)) ≡ r
 Met (judge k m table growing) = Judged k m table 0 growing
+Met (packet-length k m l table packet bytes) = PacketMeasured k m l table packet 0 bytes
+Met (parities-length k m l table bytes) = ParitiesMeasured k m l table 0 bytes
 Met (encode k m l table sources before parities) = EncodedAll k m l table sources before 0 parities
 Met (walk k m l table marks count whole progress) = Walked k m l table marks 0 count whole progress
 Met (rebuild k m l table marks packets before number count after) = Rebuilt k m l table marks packets before number count after
@@ -66,6 +70,10 @@ hankel8 =
 abbrev pub vandermonde3 : List ℕ
 vandermonde3 = 0 ∷ 0 ∷ 0 ∷ 0 ∷ 1 ∷ 2 ∷ 0 ∷ 2 ∷ 4 ∷ []
 
+-- rows that differ much in length
+abbrev pub uneven : List ℕ
+uneven = 0 ∷ 1 ∷ 0 ∷ 9 ∷ []
+
 abbrev pub seven : List ℕ
 seven = 0 ∷ 7 ∷ 0 ∷ 7 ∷ []
 
@@ -82,7 +90,8 @@ stuck = 0 ∷ 0 ∷ 5 ∷ 0 ∷ 5 ∷ 0 ∷ 5 ∷ 0 ∷ 0 ∷ []
 pub data Name : Type 0 where
   family-house family-hankel-tall family-hankel-wide family-hankel-eight family-vandermonde : Name
   largest-house largest-hankel : Name
-  encode-ones encode-high-bits : Name
+  length-low-row length-high-row lengths-uneven : Name
+  encode-ones encode-high-bits encode-uneven-ones encode-uneven-high-bits : Name
   judge-house judge-seven judge-eight : Name
   walk-both-parities walk-one-parity walk-no-parity walk-seven walk-eight walk-stuck : Name
   rebuild-both-parities rebuild-one-parity rebuild-no-parity rebuild-high-bits : Name
@@ -91,7 +100,10 @@ pub data Name : Type 0 where
   run-of-two run-first-alone run-second-first run-byte-behind run-empty run-byte-after-more : Name
   cut-by-two cut-by-one cut-empty : Name
 
--- nine bytes, and twelve
+-- five bytes, nine, and twelve
+abbrev pub five : List ℕ
+five = 9 ∷ 9 ∷ 9 ∷ 9 ∷ 9 ∷ []
+
 abbrev pub nine : List ℕ
 nine = 9 ∷ 9 ∷ 9 ∷ 9 ∷ 9 ∷ 9 ∷ 9 ∷ 9 ∷ 9 ∷ []
 
@@ -114,8 +126,13 @@ example family-hankel-eight = family 8 8 2 (replicate 64 9) hankel8
 example family-vandermonde = family 3 3 3 nine vandermonde3
 example largest-house = largest 3 3 house3 6
 example largest-hankel = largest 8 8 hankel8 28
+example length-low-row = packet-length 2 2 1 uneven 3 2
+example length-high-row = packet-length 2 2 1 uneven 4 3
+example lengths-uneven = parities-length 2 2 1 uneven 5
 example encode-ones = encode 2 2 1 house (0x01 ∷ 0x01 ∷ []) (9 ∷ 9 ∷ 9 ∷ 9 ∷ []) (0x03 ∷ 0x00 ∷ 0x05 ∷ 0x00 ∷ [])
 example encode-high-bits = encode 2 2 1 house (0x80 ∷ 0xC0 ∷ []) (9 ∷ 9 ∷ 9 ∷ 9 ∷ []) (0x00 ∷ 0x01 ∷ 0x80 ∷ 0x03 ∷ [])
+example encode-uneven-ones = encode 2 2 1 uneven (0x01 ∷ 0x01 ∷ []) five (0x03 ∷ 0x00 ∷ 0x01 ∷ 0x02 ∷ 0x00 ∷ [])
+example encode-uneven-high-bits = encode 2 2 1 uneven (0x80 ∷ 0xC0 ∷ []) five (0x00 ∷ 0x01 ∷ 0x80 ∷ 0x80 ∷ 0x01 ∷ [])
 example judge-house = judge 2 2 house 1
 example judge-seven = judge 2 2 seven 0
 example judge-eight = judge 2 2 eight 0
@@ -131,8 +148,8 @@ example rebuild-no-parity = rebuild 2 2 1 house 3 (0x01 ∷ 0x01 ∷ []) (9 ∷ 
 -- seven unknown bits lie below the lowest one
 example rebuild-high-bits = rebuild 2 2 1 house 12 (0x00 ∷ 0x01 ∷ 0x80 ∷ 0x03 ∷ []) (9 ∷ 9 ∷ []) 0 16 (0x80 ∷ 0xC0 ∷ [])
 example rebuild-one-above = rebuild 2 2 1 house 12 (0x03 ∷ 0x00 ∷ 0x05 ∷ 0x04 ∷ []) (9 ∷ 9 ∷ []) 9 0 (9 ∷ 9 ∷ [])
--- parity 1 has a one above its own row's last bit but not above the table's
-example rebuild-past-the-row = rebuild 2 2 1 house 12 (0x00 ∷ 0x02 ∷ 0x00 ∷ 0x00 ∷ []) (9 ∷ 9 ∷ []) 10 0 (9 ∷ 9 ∷ [])
+-- parity 1 has a one above its own row's last bit but not above that of row 2
+example rebuild-past-the-row = rebuild 2 2 1 house 12 (0x00 ∷ 0x02 ∷ 0x00 ∷ 0x00 ∷ []) (9 ∷ 9 ∷ []) 9 0 (9 ∷ 9 ∷ [])
 example rebuild-no-sources = rebuild 2 2 1 house 12 (0x03 ∷ 0x00 ∷ 0x05 ∷ 0x01 ∷ []) (9 ∷ 9 ∷ []) 10 0 (9 ∷ 9 ∷ [])
 example rebuild-seven = rebuild 2 2 1 seven 12 (0x03 ∷ 0x00 ∷ 0x05 ∷ 0x00 ∷ []) (9 ∷ 9 ∷ []) 8 7 (9 ∷ 9 ∷ [])
 example rebuild-eight = rebuild 2 2 1 eight 12 (0x01 ∷ 0x01 ∷ 0x01 ∷ 0x01 ∷ []) (9 ∷ 9 ∷ []) 0 16 (0x01 ∷ 0x01 ∷ [])
@@ -164,8 +181,13 @@ examples =
     ∷ family-vandermonde
     ∷ largest-house
     ∷ largest-hankel
+    ∷ length-low-row
+    ∷ length-high-row
+    ∷ lengths-uneven
     ∷ encode-ones
     ∷ encode-high-bits
+    ∷ encode-uneven-ones
+    ∷ encode-uneven-high-bits
     ∷ judge-house
     ∷ judge-seven
     ∷ judge-eight

@@ -18,7 +18,7 @@ pub record Bounded (D : Desk) : Type 0 where
   pub bits-high : D .bits ≤ maxBits
   pub bytes-high : D .bytes ≤ maxBytes
   pub fits : D .bits ≤ 8 * D .bytes
-  pub low : (a b : ℕ) → a < D .m → b < D .k → D .shift a b ≤ maxShift
+  pub low : (a b : ℕ) → b < D .k → D .shift a b ≤ maxShift
 
 pub within-bounds : (s : Shape) (shifts : List ℕ) → Within s shifts → Bounded (deskOf s shifts)
 within-bounds s shifts w = record {
@@ -28,7 +28,7 @@ within-bounds s shifts w = record {
   bits-high = source-bits-high (s .length) (w .l-high);
   bytes-high = source-bytes-high (s .length) (w .l-high);
   fits = source-fits (s .length);
-  low = λ a b la lb. omega (arith, laid-in (s .k) shifts a b lb, w .low (a * maxK + b));
+  low = λ a b lb. omega (arith, laid-in (s .k) shifts a b lb, w .low (a * maxK + b));
 }
 
 pub shaped-bounds : (k m l : ℕ) (table : List ℕ) (marks : ℕ) → Shaped k m l table → Bounded (desk k m l table marks)
@@ -39,7 +39,7 @@ shaped-bounds k m l table marks S = record {
   bits-high = source-bits-high l (S .l-high);
   bytes-high = source-bytes-high l (S .l-high);
   fits = source-fits l;
-  low = λ a b la lb. omega (arith, entry-in k table a b lb, S .low (a * k + b));
+  low = λ a b lb. omega (arith, entry-in k table a b lb, S .low (a * k + b));
 }
 
 module _ (D : Desk) (B : Bounded D) where
@@ -51,11 +51,11 @@ module _ (D : Desk) (B : Bounded D) where
 
   -- every parity fits in a row
   pub parity-bits-fit : (a : ℕ) → packetBits D (k + a) ≤ 8 * longest
-  parity-bits-fit a = omega (arith, parity-packet-bits D a, reach-below D a maxShift (B .low), B .bits-high)
+  parity-bits-fit a = omega (arith, parity-packet-bits D a, reach-below D a maxShift (B .low a), B .bits-high)
 
   pub parity-fits : (a : ℕ) → packetBytes D (k + a) ≤ longest
   parity-fits a = omega (arith, parity-packet-bytes D (k + a) (omega arith), parity-bits-fit a)
 
   -- and so does a source with all its bytes, shifted up
   pub shifted-fits : (a b : ℕ) → a < m → b < k → shift a b + 8 * bytes ≤ 8 * longest
-  shifted-fits a b la lb = omega (arith, B .low a b la lb, B .bytes-high)
+  shifted-fits a b la lb = omega (arith, B .low a b lb, B .bytes-high)

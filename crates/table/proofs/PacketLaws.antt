@@ -50,6 +50,16 @@ most-same n f g h = omega (
   most-below n g (most n f) (λ i l. omega (arith, h i l, most-above n f i l)),
 )
 
+-- and it is one of them
+pub most-is-one : (n : ℕ) (f : ℕ → ℕ) → 1 ≤ n → (i : ℕ) × (i < n) × (most n f ≡ f i)
+unfolding most
+most-is-one zero f some = absurd (omega arith)
+most-is-one (suc zero) f some = (0, omega arith, omega (arith, larger-right 0 (f 0), larger-below 0 (f 0) (f 0) (omega arith) (omega arith)))
+most-is-one (suc (suc n)) f some = elim (decLe (f (suc n)) (most (suc n) f)) [
+  | yes h ↦ let before = most-is-one (suc n) f (omega arith) in (before .0, omega (arith, before .1), rw (le-leb (f (suc n)) (most (suc n) f) h) (before .2))
+  | no h ↦ let l : most (suc n) f < f (suc n) = omega arith in (suc n, omega arith, rw (lt-leb (f (suc n)) (most (suc n) f) l))
+]
+
 pub most-none : (f : ℕ → ℕ) → 0 ≡ most 0 f
 unfolding most
 most-none f = refl
@@ -73,14 +83,18 @@ source-bytes-low l h = omega arith
 module _ (D : Desk) where
   open Desk D using (k, m, bits, bytes, shift)
 
-  -- every shift of a parity is within its reach
-  pub within-reach : (a b : ℕ) → a < m → b < k → shift a b ≤ reach D a
+  -- every shift of a parity is within its reach, which is below what each of them is below, and one of them
+  pub within-reach : (a b : ℕ) → b < k → shift a b ≤ reach D a
   unfolding reach
-  within-reach a b la lb = omega (arith, most-above k (shift a) b lb, most-above m (λ c. most k (shift c)) a la)
+  within-reach a b lb = most-above k (shift a) b lb
 
-  pub reach-below : (a z : ℕ) → ((c b : ℕ) → c < m → b < k → shift c b ≤ z) → reach D a ≤ z
+  pub reach-below : (a z : ℕ) → ((b : ℕ) → b < k → shift a b ≤ z) → reach D a ≤ z
   unfolding reach
-  reach-below a z h = most-below m (λ c. most k (shift c)) z (λ c lc. most-below k (shift c) z (λ b lb. h c b lc lb))
+  reach-below a z h = most-below k (shift a) z h
+
+  pub reach-is-an-entry : (a : ℕ) → 1 ≤ k → (b : ℕ) × (b < k) × (reach D a ≡ shift a b)
+  unfolding reach
+  reach-is-an-entry a some = most-is-one k (shift a) some
 
   -- the bits and bytes of a source and of a parity
   pub source-packet-bits : (i : ℕ) → i < k → bits ≡ packetBits D i

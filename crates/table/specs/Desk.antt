@@ -56,9 +56,9 @@ module _ (D : Desk) where
   abbrev pub sourcePlace : ℕ → ℕ
   sourcePlace c = c * (8 * bytes)
 
-  -- how far parity a shifts its sources up: all parities of a table as far as its largest entry
+  -- how far parity a shifts its sources up: the largest entry of its row
   unfoldable pub reach : ℕ → ℕ
-  reach a = most m (λ c. most k (shift c))
+  reach a = most k (shift a)
 
   -- the bits of packet i
   unfoldable pub packetBits : ℕ → ℕ

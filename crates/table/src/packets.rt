@@ -8,8 +8,8 @@ ghost use lib.Dec.{leb};
 ghost use Prim.Native.Nat.{ℕ, _+_, _*_, _/_, _^_, _≤_, _<_};
 ghost use Rattle.bits.specs.Sums.{pick};
 ghost use Rattle.table.specs.Limits.{maxK, maxLength, maxShift, maxPackets, allSources, longest};
-ghost use Rattle.table.specs.Desk.{most, reach, sourcesBytes, sourcePlace, packetBits, packetBytes, paritiesBytes, survivorsBytes};
-ghost use Rattle.table.specs.Table.{Within, deskOf, laidOut, NextMark};
+ghost use Rattle.table.specs.Desk.{reach, sourcesBytes, sourcePlace, packetBits, packetBytes, paritiesBytes, survivorsBytes};
+ghost use Rattle.table.specs.Table.{Within, deskOf, NextMark};
 
 // The larger of two numbers.
 fn larger(x: usize, y: usize) -> usize
@@ -18,30 +18,16 @@ fn larger(x: usize, y: usize) -> usize
     if y <= x { x } else { y }
 }
 
-// The largest shift of row a.
-fn row_most(s: Shape, shifts: &[u8; Table::CELLS], a: usize) -> usize
+// How far parity a shifts its sources up: the largest shift of its row.
+pub fn reach(s: Shape, shifts: &[u8; Table::CELLS], a: usize) -> usize
     requires { ⌜ Within s (now shifts) × (a < s .m) ⌝ }
-    ensures { λ r. ⌜ r ≡ most (s .k) (laidOut (s .k) (now (shifts .entry)) a) ⌝ }
+    ensures { λ r. ⌜ (r ≡ reach (deskOf s (now (shifts .entry))) a) × (r ≤ maxShift) ⌝ }
 {
     let mut x = 0;
     let mut b = 0;
     while b < s.k {
         x = larger(x, crate::shift_of(s, shifts, a, b));
         b += 1;
-    }
-    x
-}
-
-// How far parity a shifts its sources up.
-pub fn reach(s: Shape, shifts: &[u8; Table::CELLS], a: usize) -> usize
-    requires { ⌜ Within s (now shifts) × (a < s .m) ⌝ }
-    ensures { λ r. ⌜ (r ≡ reach (deskOf s (now (shifts .entry))) a) × (r ≤ maxShift) ⌝ }
-{
-    let mut x = 0;
-    let mut c = 0;
-    while c < s.m {
-        x = larger(x, row_most(s, shifts, c));
-        c += 1;
     }
     x
 }

@@ -1,7 +1,7 @@
 // The C interface: each export keeps the promise of the call that it passes on. Numbers come back as results, all else in slots.
 use table::Table;
 ghost use Rattle.family.specs.Promise.{FamilyWritten, Judged};
-ghost use Rattle.encode.specs.Promise.{EncodedAll, EncodedOne, PacketMeasured, SurvivorsMeasured};
+ghost use Rattle.encode.specs.Promise.{EncodedAll, EncodedOne, PacketMeasured, ParitiesMeasured, SurvivorsMeasured};
 ghost use Rattle.walk.specs.Promise.{Walked, Stepped};
 ghost use Rattle.rebuild.specs.Promise.{Rebuilt};
 ghost use Rattle.repair.specs.Promise.{Repaired};
@@ -40,6 +40,16 @@ pub extern "C" fn whx_packet_length(
     ensures { λ r. ⌜ PacketMeasured k m l (now (table .entry)) packet r (now (length .exit)) ⌝ }
 {
     let a = encode::packet_length(k, m, l, table, packet);
+    *length = a.length;
+    a.number
+}
+
+// The bytes of all parities.
+#[no_mangle]
+pub extern "C" fn whx_parities_length(k: u64, m: u64, l: u64, table: &[u8], length: &mut u64) -> u64
+    ensures { λ r. ⌜ ParitiesMeasured k m l (now (table .entry)) r (now (length .exit)) ⌝ }
+{
+    let a = encode::parities_length(k, m, l, table);
     *length = a.length;
     a.number
 }

@@ -60,7 +60,7 @@ shift-add-requires c κs =
     let D = deskOf (s .args .s) (s .args .shifts .now) in
     let e = c .before .before .shift-of .ensures in
     let n = taken t .long in
-    let fits = within-reach D (s .args .a) (l .loop .b) (s .pre .1 .0) (search needs) in
+    let fits = within-reach D (s .args .a) (l .loop .b) (search needs) in
     let all = parity-packet-bits D (s .args .a) in
     (omega (arith, n, e .1, l .loop .inv .1, s .pre .0 .l-high), omega (arith, n, e .0, fits, all, l .loop .inv .1, l .loop .inv .2, s .pre .1 .1 .1))
 

@@ -1,7 +1,7 @@
 -- Parity after parity is added, each after those that stand there. Assumes nothing.
 use Prim.Native.Nat.{_+_, _*_, _≤_, _-_}
 use Rattle.code.specs.Code.{sumOf, sourcesOf}
-use mathlib.Core.Path.{_≡_, refl, ap₂, _∙_, subst}
+use mathlib.Core.Path.{_≡_, refl, _∙_, subst}
 use lib.Dec.{leb}
 use lib.ListN.{length}
 use Rattle.table.specs.Limits.{longest}
@@ -59,10 +59,9 @@ loop-again c =
     let w = c .before .before .before .before in
     let l = w .before .before .before .before in
     let s = l .before .before .before .args in
-    let D = deskOf (s .s) (s .shifts .now) in
-    let next = ap₂ _+_ (l .loop .inv .1) (c .packet-bytes .ensures .0) ∙ parities-more D (l .loop .a) in (
+    let D = deskOf (s .s) (s .shifts .now) in (
       omega arith,
-      next,
+      omega (arith, l .loop .inv .1, c .packet-bytes .ensures .0, parities-more D (l .loop .a)),
       omega (arith, c .packet-bytes .ensures .1),
       w .add-row .kept .1 .1 .1 .1 .0 ∙ l .loop .inv .3,
       rows-more D (s .sources .now) (shape-short (s .s) (s .shifts .now) (s .sources .now)) (l .loop .a) (l .loop .dst) _ (search needs) (l .loop .inv .4)

@@ -1,6 +1,6 @@
 -- The places of the parities add up, one parity after the other. Assumes nothing.
 use Prim.Native.Nat.{_+_, _*_, _≤_, _-_}
-use mathlib.Core.Path.{_≡_, ap, ap₂, _∙_}
+use mathlib.Core.Path.{_≡_, ap, _∙_}
 use lib.Dec.{leb}
 use Rattle.table.specs.Limits.{longest}
 use Rattle.table.specs.Desk.{placeOf}
@@ -39,7 +39,8 @@ loop-again : tie.Need-loop-again Inv-loop μ-loop
 loop-again c =
     let l = c .before .before .before .before in
     let s = l .before .args in
-    (omega arith, ap₂ _+_ (l .loop .inv .1) (c .packet-bytes .ensures .0) ∙ parities-more (deskOf (s .s) (s .shifts .now)) (l .loop .a), omega (arith, c .packet-bytes .ensures .1))
+    let next = parities-more (deskOf (s .s) (s .shifts .now)) (l .loop .a) in
+    (omega arith, omega (arith, l .loop .inv .1, c .packet-bytes .ensures .0, next), omega (arith, c .packet-bytes .ensures .1))
 
 returns : tie.Need-returns Inv-loop μ-loop
 returns c =
