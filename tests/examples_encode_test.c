@@ -48,6 +48,15 @@ static void encode_three_rows_of_three_lengths(void)
     gives(&encode_all_call, q, done(), "00  01 02 00  03 00");
 }
 
+/* Eight times the first parity's length is what all take here, but parity 4 is shorter and parity 8
+ * longer. */
+static void encode_where_the_first_length_fits_by_chance(void)
+{
+    question q = with_input(house_question(2, 8, 1), "01 01");
+    set_family_table(&q, WH_HANKEL);
+    gives(&encode_all_call, q, done(), "48 00  0A 00  03 00  00  03 00  0A 00  48 00  40 04 00");
+}
+
 static void encode_one_source_is_a_copy(void)
 {
     question q = with_input(example(), "80 C0");
@@ -77,6 +86,8 @@ int main(void)
         {"example_encode_with_uneven_rows", encode_with_uneven_rows},
         {"example_encode_with_one_length_for_all_is_5", encode_with_one_length_for_all_is_5},
         {"example_encode_three_rows_of_three_lengths", encode_three_rows_of_three_lengths},
+        {"example_encode_where_the_first_length_fits_by_chance",
+         encode_where_the_first_length_fits_by_chance},
         {"example_encode_one_source_is_a_copy", encode_one_source_is_a_copy},
         {"example_encode_one_of_packet_99_is_6", encode_one_of_packet_99_is_6},
         {"example_encode_input_before_output", encode_input_before_output},
