@@ -16,7 +16,7 @@ typedef struct {
     unsigned k, m, lost;
     uint8_t table[WH_MAX_M * WH_MAX_K]; /* the house table, m * k bytes */
     size_t parity_bytes[WH_MAX_M];      /* of each of Windhawker's parities */
-    size_t all_parities;                /* of all of them */
+    size_t parities_bytes;              /* of all of them */
     uint8_t sources[WH_MAX_K * LENGTH];
 } job;
 

@@ -52,7 +52,7 @@ static void must(uint64_t number)
 static void library_encode(const job *j)
 {
     must(wh_encode_all(j->k, j->m, LENGTH, j->table, j->m * j->k, j->sources,
-                       j->k * (size_t)LENGTH, parities, j->all_parities));
+                       j->k * (size_t)LENGTH, parities, j->parities_bytes));
 }
 
 static void library_rebuild(const job *j)

@@ -165,7 +165,7 @@ static job make_job(unsigned k, unsigned m)
     }
     wh_measured all = wh_parities_length(k, m, LENGTH, j.table, m * k);
     must(all.number);
-    j.all_parities = (size_t)all.length;
+    j.parities_bytes = (size_t)all.length;
     for (size_t i = 0; i < sizeof j.sources; i++) {
         state = state * 6364136223846793005u + 1442695040888963407u;
         j.sources[i] = (uint8_t)(state >> 56);

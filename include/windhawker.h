@@ -11,14 +11,15 @@
  * THE SHIFT TABLE
  *   m rows of k entries, row by row, one byte each, 0 to 64. Entry (a, b) says how many bits
  *   source b is shifted up before it is added (XOR) into parity a. The largest entry of row a is
- *   r_a: so many bits more than a source parity a has.
+ *   called r_a: parity a has r_a bits more than a source.
  *   wh_family_table makes tables with which any k packets work. There are three families of them.
- *   Small entries are less room lost at the top of the parities. The largest of the whole table is
+ *   Small entries mean less room lost at the top of the parities. The largest of the whole table is
  *      WH_HOUSE        1: m * (k - 1), in the last row
  *      WH_HANKEL       2: h * (h - 1) / 2, where h is n / 2 rounded down
  *      WH_VANDERMONDE  3: (m - 1) * (k - 1), in the last row
- *   With k = m = 8 that is 56, 28 and 49. None is best for all k and m: with k = 2 and m = 8 they
- *   have 8, 10 and 7. The lab uses WH_HOUSE unless it is told otherwise.
+ *   With k = m = 8 all parities together take 35, 19 and 28 bytes more than m sources. None is best
+ *   for all k and m: with k = 2 and m = 8 it is 8, 8 and 7. The lab uses WH_HOUSE unless it is told
+ *   otherwise.
  *
  * BITS
  *   Bit p of a packet is bit p % 8 of byte p / 8, lowest bit first. Parity a is the XOR, over all

@@ -177,19 +177,19 @@ static void take(decoding *d, const wh_stepped *step)
 static void begin(decoding *d)
 {
     static const uint8_t recorded[K * L] = {'H', 'i'};
-    size_t used = 0;
+    size_t length = 0; /* of the parities so far */
     for (uint64_t a = 1; a <= M; a++) {
         wh_measured parity = wh_packet_length(K, M, L, d->table, sizeof d->table, K + a);
         must(parity.number, "wh_packet_length");
-        d->starts[a - 1] = used;
-        used += (size_t)parity.length;
+        d->starts[a - 1] = length;
+        length += (size_t)parity.length;
         for (uint64_t b = 1; b <= K; b++) {
             uint64_t top = BITS + entry(d, a, b);
             d->places[a - 1] = d->places[a - 1] < top ? top : d->places[a - 1];
         }
     }
     must(wh_encode_all(K, M, L, d->table, sizeof d->table, recorded, sizeof recorded, d->parities,
-                       used),
+                       length),
          "wh_encode_all");
     for (uint64_t b = 1; b <= K; b++) {
         if (at_hand(b)) {

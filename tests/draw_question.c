@@ -38,6 +38,18 @@ question largest_question(void)
     return house_question(WH_MAX_K, WH_MAX_M, WH_MAX_LENGTH);
 }
 
+question longest_question(void)
+{
+    question q = largest_question();
+    for (uint64_t a = 1; a <= q.m; a++) {
+        uint8_t raise = (uint8_t)(WH_MAX_SHIFT - entry(&q, a, q.k)); /* its largest is its last */
+        for (uint64_t b = 1; b <= q.k; b++) {
+            q.table.at[(a - 1) * q.k + (b - 1)] += raise;
+        }
+    }
+    return q;
+}
+
 question family_question(uint64_t table)
 {
     question q = {0};
@@ -83,7 +95,7 @@ static void draw_uneven_table(question *q)
     static const uint64_t bounds[] = {1, 2, 8, 10, 18, WH_MAX_SHIFT + 1};
     q->table.length = (size_t)(q->m * q->k);
     for (size_t i = 0; i < q->table.length;) {
-        uint64_t bound = bounds[random_below(6)];
+        uint64_t bound = bounds[random_below(sizeof bounds / sizeof bounds[0])];
         do {
             q->table.at[i++] = (uint8_t)random_below(bound);
         } while (i % q->k != 0);

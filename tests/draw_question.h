@@ -7,9 +7,12 @@
 #include <stdbool.h>
 
 /* A question with this shape, or one at the limits, and the house table, and nothing else yet; or
- * with l = 1 and one of the tables of every family and every size, which are counted from 0. */
+ * with l = 1 and one of the tables of every family and every size, which are counted from 0. In the
+ * longest question each row of the house table is moved up, so that every parity is as long as one
+ * can be. */
 question house_question(uint64_t k, uint64_t m, uint64_t l);
 question largest_question(void);
+question longest_question(void);
 enum { FAMILY_TABLES = WH_FAMILIES * WH_MAX_K * WH_MAX_M };
 question family_question(uint64_t table);
 

@@ -41,6 +41,14 @@ static void longest_packet_is_reached(void)
     }
 }
 
+static void longest_parities_are_reached(void)
+{
+    question q = longest_question();
+    if (compare(&parities_length_call, &q).results[0] != WH_MAX_M * WH_LONGEST) {
+        fail("another length");
+    }
+}
+
 /* The longest packet in the smallest blocks is the most that is written; a byte less of room and a
  * byte more of packet are refused. */
 static void most_blocks_are_reached(void)
@@ -64,6 +72,7 @@ int main(void)
         {"limits_one_more_is_refused", one_more_is_refused},
         {"limits_one_more_family_is_refused", one_more_family_is_refused},
         {"limits_longest_packet_is_reached", longest_packet_is_reached},
+        {"limits_longest_parities_are_reached", longest_parities_are_reached},
         {"limits_most_blocks_are_reached", most_blocks_are_reached},
     };
     return run_named_tests(tests, sizeof tests / sizeof tests[0]);

@@ -65,17 +65,18 @@ static void round_trip_at_the_limits(void)
         draw_marks(&q);
         expect_round_trip(&q);
     }
+    q = longest_question();
+    lose_every_source(&q);
+    expect_round_trip(&q);
 }
 
-/* Against elimination, with all sources missing and long. */
+/* Against elimination, with all sources missing and long, and every parity as long as one can be in
+ * half of the cases. */
 static void rebuild_at_the_limits(void)
 {
     for (size_t i = 0; i < 4; i++) {
-        question q = largest_question();
+        question q = i % 2 == 1 ? longest_question() : largest_question();
         lose_every_source(&q);
-        if (i % 2 == 1) {
-            q.table.at[q.table.length - 1] = WH_MAX_SHIFT;
-        }
         fit_survivors(&q, q.k * q.l);
         q.input.at[i == 3 ? 100 : 0] ^= i >= 2 ? 4 : 0;
         compare(&rebuild_call, &q);
@@ -141,7 +142,7 @@ static void telling_bytes_in_two_parities(void)
     }
 }
 
-/* A one at each place of a parity's last byte: WH_STRAY above its own row's last bit, and nowhere
+/* Each bit of a parity's last byte turned over: WH_STRAY above its own row's last bit, and nowhere
  * else. */
 static void expect_stray_above_the_row(question *q, uint64_t a)
 {

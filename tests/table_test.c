@@ -125,15 +125,17 @@ static void judge_spoiled(void)
     compare_spoiled(&judge_call, 10000);
 }
 
-/* Every source length and every largest shift, at every packet. */
+/* Every source length and every largest shift of its row, at every packet; any in the other row. */
 static void packet_length_of_every_packet(void)
 {
     question q = house_question(2, 2, 1);
     for (q.l = 0; q.l <= WH_MAX_LENGTH + 2; q.l++) {
         for (uint8_t r = 0; r <= WH_MAX_SHIFT + 2; r++) {
             for (q.packet = 0; q.packet <= 6; q.packet++) {
+                uint8_t other = (uint8_t)random_below(WH_MAX_SHIFT + 1);
                 memset(q.table.at, 0, 4);
-                q.table.at[random_below(4)] = r;
+                q.table.at[random_below(2)] = q.packet == 4 ? other : r;
+                q.table.at[2 + random_below(2)] = q.packet == 4 ? r : other;
                 compare(&packet_length_call, &q);
             }
         }

@@ -91,7 +91,8 @@ static void count_encode_all(const shape *s, size_t cells, size_t all)
     say_count(number == WH_DONE ? "encode_all" : "refused", s, count);
 }
 
-/* As many sources lost as there are parities for. Those at hand stand before the parities. */
+/* As many sources lost as there are parities for. Those at hand stand before the first so many
+ * parities. */
 static void count_rebuild(const shape *s, size_t cells)
 {
     size_t lost = (size_t)(s->k < s->m ? s->k : s->m), kept = (size_t)s->k - lost, used = 0;
@@ -136,7 +137,7 @@ int main(void)
         uint64_t number = wh_family_table(s->k, s->m, WH_HOUSE, table, cells);
         wh_measured all = wh_parities_length(s->k, s->m, s->l, table, cells);
         if (number != WH_DONE || all.number != WH_DONE) {
-            say_count("refused", s, number);
+            say_count("refused", s, number != WH_DONE ? number : all.number);
             return 1;
         }
         count_encode_all(s, cells, (size_t)all.length);

@@ -32,7 +32,7 @@ static void damaged_packets(void)
  * bit turned over. */
 static void at_the_limits(void)
 {
-    question q = largest_question();
+    question q = longest_question();
     lose_every_source(&q);
     fit_survivors(&q, q.k * q.l);
     compare(&rebuild_call, &q);

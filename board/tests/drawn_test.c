@@ -82,7 +82,8 @@ static void written_and_read(void)
     }
 }
 
-/* As many sources and parities as there can be, as long as they can be, all sources missing. */
+/* As many sources and parities as there can be, all sources missing and as long as they can be; at
+ * last every parity too. */
 static void at_the_limits(void)
 {
     question q = largest_question();
@@ -96,6 +97,9 @@ static void at_the_limits(void)
         fit_sources(&q, parities_bytes(&q));
         compare(&encode_all_call, &q);
     }
+    q = longest_question();
+    fit_sources(&q, parities_bytes(&q));
+    compare(&encode_all_call, &q);
 }
 
 int main(void)

@@ -7,7 +7,7 @@
 
 #include "windhawker.h"
 
-enum { K = 2, M = 2, L = 1, P = 2, PARITIES_3_AND_4 = 12 };
+enum { K = 2, M = 2, L = 1, PARITIES_3_AND_4 = 12 };
 
 static int refused(uint64_t number)
 {
@@ -18,7 +18,7 @@ static int refused(uint64_t number)
 int main(void)
 {
     const uint8_t sources[K * L] = {0x80, 0xC0};
-    uint8_t table[M * K], parities[M * P];
+    uint8_t table[M * K], parities[M * WH_LONGEST];
     uint8_t *back = malloc(K * L);
     if (back == NULL) {
         return 2;
@@ -27,13 +27,17 @@ int main(void)
     if (number != WH_DONE) {
         return refused(number);
     }
-    number = wh_encode_all(K, M, L, table, sizeof table, sources, sizeof sources, parities,
-                           sizeof parities);
+    wh_measured all = wh_parities_length(K, M, L, table, sizeof table);
+    if (all.number != WH_DONE) {
+        return refused(all.number);
+    }
+    number =
+        wh_encode_all(K, M, L, table, sizeof table, sources, sizeof sources, parities, all.length);
     if (number != WH_DONE) {
         return refused(number);
     }
     wh_rebuilt rebuilt = wh_rebuild(K, M, L, table, sizeof table, PARITIES_3_AND_4, parities,
-                                    sizeof parities, back, K * L);
+                                    all.length, back, K * L);
     if (rebuilt.number != WH_DONE) {
         return refused(rebuilt.number);
     }

@@ -10,7 +10,7 @@ ghost use Prim.Native.Nat.{_<_};
 // The house table of k = 2 and m = 2.
 const HOUSE: [u8; 4] = [0, 1, 0, 2];
 
-// Rows that differ much in length, and what stands before their lines.
+// Rows whose largest entries differ, so that the parities differ in length, and what stands before their lines.
 const UNEVEN: [u8; 4] = [0, 1, 0, 9];
 
 fn say_uneven() {
@@ -163,7 +163,7 @@ fn say_length(number: u64, length: u64) {
     say(b" bytes\n");
 }
 
-// The bytes of a packet where rows differ much in length.
+// The bytes of a packet where the parities differ in length.
 fn packet_long(packet: u64) {
     let a = encode::packet_length(2, 2, 1, &UNEVEN, packet);
     say_uneven();

@@ -209,7 +209,7 @@ abbrev pub NoughtsPastTheSum : Type 0
 NoughtsPastTheSum =
     (k m l : ℕ) (table sources : List ℕ) (a q : ℕ) → a < m → packetBits (desk k m l table 0) (k + a) ≤ q → sumBit k m l table sources a q ≡ 0
 
--- What it writes is as long as parities' length says, the place behind the last parity; and 5 is for an output of any other length.
+-- What it writes is as long as parities' length says: the place behind the last parity.
 abbrev pub ParitiesLengthIsThePlace : Type 0
 ParitiesLengthIsThePlace =
     (k m l : ℕ) (table : List ℕ) (bytes : ℕ)
@@ -217,6 +217,7 @@ ParitiesLengthIsThePlace =
     → (bytes ≡ placeOf (desk k m l table 0) (leb k) (k + m))
     × ((sources before after : List ℕ) → EncodedAll k m l table sources before 0 after → length after ≡ bytes)
 
+-- Where the shape is accepted and the sources have their length, 5 is for an output of any other.
 abbrev pub FiveIsForAnotherLength : Type 0
 FiveIsForAnotherLength =
     (k m l : ℕ) (table : List ℕ) (bytes : ℕ)

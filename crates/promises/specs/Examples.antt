@@ -70,7 +70,7 @@ hankel8 =
 abbrev pub vandermonde3 : List ℕ
 vandermonde3 = 0 ∷ 0 ∷ 0 ∷ 0 ∷ 1 ∷ 2 ∷ 0 ∷ 2 ∷ 4 ∷ []
 
--- rows that differ much in length
+-- rows whose largest entries differ, so that the parities differ in length
 abbrev pub uneven : List ℕ
 uneven = 0 ∷ 1 ∷ 0 ∷ 9 ∷ []
 

@@ -51,12 +51,12 @@ most-same n f g h = omega (
 )
 
 -- and it is one of them
-pub most-is-one : (n : ℕ) (f : ℕ → ℕ) → 1 ≤ n → (i : ℕ) × (i < n) × (most n f ≡ f i)
+pub most-is-one-of-them : (n : ℕ) (f : ℕ → ℕ) → 1 ≤ n → (i : ℕ) × (i < n) × (most n f ≡ f i)
 unfolding most
-most-is-one zero f some = absurd (omega arith)
-most-is-one (suc zero) f some = (0, omega arith, omega (arith, larger-right 0 (f 0), larger-below 0 (f 0) (f 0) (omega arith) (omega arith)))
-most-is-one (suc (suc n)) f some = elim (decLe (f (suc n)) (most (suc n) f)) [
-  | yes h ↦ let before = most-is-one (suc n) f (omega arith) in (before .0, omega (arith, before .1), rw (le-leb (f (suc n)) (most (suc n) f) h) (before .2))
+most-is-one-of-them zero f some = absurd (omega arith)
+most-is-one-of-them (suc zero) f some = (0, omega arith, omega (arith, larger-right 0 (f 0), larger-below 0 (f 0) (f 0) (omega arith) (omega arith)))
+most-is-one-of-them (suc (suc n)) f some = elim (decLe (f (suc n)) (most (suc n) f)) [
+  | yes h ↦ let before = most-is-one-of-them (suc n) f (omega arith) in (before .0, omega (arith, before .1), rw (le-leb (f (suc n)) (most (suc n) f) h) (before .2))
   | no h ↦ let l : most (suc n) f < f (suc n) = omega arith in (suc n, omega arith, rw (lt-leb (f (suc n)) (most (suc n) f) l))
 ]
 
@@ -94,7 +94,7 @@ module _ (D : Desk) where
 
   pub reach-is-an-entry : (a : ℕ) → 1 ≤ k → (b : ℕ) × (b < k) × (reach D a ≡ shift a b)
   unfolding reach
-  reach-is-an-entry a some = most-is-one k (shift a) some
+  reach-is-an-entry a some = most-is-one-of-them k (shift a) some
 
   -- the bits and bytes of a source and of a parity
   pub source-packet-bits : (i : ℕ) → i < k → bits ≡ packetBits D i
