@@ -132,14 +132,11 @@ module _ (k m l : ℕ) (table sources before after : List ℕ) (x : EncodedAll k
   abbrev E : Desk
   E = desk k m l table 0
 
-  -- the sources and the output have their lengths
-  encoded-sizes : (length sources ≡ sourcesBytes E) × (length before ≡ paritiesBytes E)
-  encoded-sizes =
-      let lengths = passed (shapeChecks k m l table) (allChecks E sources before) (numbered-by (shapeChecks k m l table) refl) (x .numbered) .1 in
-      lengths-exact (sourcesBytes E) (paritiesBytes E) sources before lengths
-
+  -- the sources have their length
   encoded-size : length sources ≡ sourcesBytes E
-  encoded-size = encoded-sizes .0
+  encoded-size =
+      let lengths = passed (shapeChecks k m l table) (allChecks E sources before) (numbered-by (shapeChecks k m l table) refl) (x .numbered) .1 in
+      lengths-exact (sourcesBytes E) (paritiesBytes E) sources before lengths .0
 
   -- and so has what is written
   written-size : length after ≡ paritiesBytes E
