@@ -46,6 +46,19 @@
  *   bare pair and uncovers one more bit of b. When nothing is bare and something is missing, the
  *   decoding has stalled.
  *
+ * LISTS OF STEPS
+ *   An order of steps as it is written down: for each step, first to last, the number of its
+ *   parity, 1 to m, in one list of bytes, and that of its source, 1 to k, in another as long. The
+ *   bit that a step uncovers is always the source's next one and is not written. wh_check_steps
+ *   takes a list exactly when each pair is bare when its turn comes and all missing sources are
+ *   finished at the end. If not, it tells where it goes wrong: the place, from 1, of the first step
+ *   that is not bare, or the length of a list that only ends early. With the house table of
+ *   k = m = 2, l = 1 and marks 9, where source 2 is missing and parity 2 at hand, one list is right:
+ *   2 2 2 2 2 2 2 2 and 2 2 2 2 2 2 2 2. Where more is missing several may be right, all of the
+ *   same length, and where the decoding stalls none is. With marks 12 the steps 1 1 and then 1 2
+ *   (parity, source) are refused at place 2: once a bit of source 1 is uncovered, the next bits of
+ *   both sources stand at the same place of parity 1.
+ *
  * BLOCKS, RUNS
  *   A card reader hands a packet over in blocks (I-blocks of ISO/IEC 7816-3, protocol T=1). The
  *   bytes of a block are NAD, the node address; PCB, the control byte; LEN; LEN bytes of
@@ -80,6 +93,10 @@
  *      5  WH_OUTPUT          an output buffer has not the exact length: a table takes m * k bytes,
  *                            sources k * l, a packet wh_packet_length, all parities
  *                            wh_parities_length
+ *     22  WH_STEPS_UNEQUAL   the two lists of steps differ in length
+ *     23  WH_STEP_NOT_BARE   a step of the list is not bare when its turn comes; nor is one whose
+ *                            entries are no parity or no source at all
+ *     24  WH_STEPS_EARLY     the list ends before all missing sources are finished
  *      8  WH_STALL           stalled: no order of steps finishes all missing sources
  *      9  WH_STRAY           a parity at hand has a one above its last bit, 8 * l + r_a - 1
  *     10  WH_FOREIGN         no sources encode to these packets
@@ -114,11 +131,12 @@
  *   otherwise. Buffers that you lend to one call must not overlap. Any numbers and any bytes may be
  *   passed: nothing is cut to fewer bits on its way in, and lengths have 64 bits on every board.
  *   NULL is a buffer of length 0, whatever length stands beside it, and is refused as that: with
- *   WH_TABLE, WH_INPUT, WH_OUTPUT, WH_BLOCK_SHORT or, for a destination, WH_ROOM. Length 0 is right
- *   in two places only: the destination of a block or a run that has no information, and the packet
- *   that wh_write_blocks cuts. So a packet that is NULL is an empty one, and not refused: look at a
- *   pointer that may be NULL before you lend it. Progress is not NULL: it is always an array of
- *   WH_MAX_K numbers.
+ *   WH_TABLE, WH_INPUT, WH_OUTPUT, WH_BLOCK_SHORT, for a destination WH_ROOM, for a list of steps
+ *   WH_STEPS_UNEQUAL or WH_STEPS_EARLY. Length 0 is right in three places only: the destination of
+ *   a block or a run that has no information, the packet that wh_write_blocks cuts, and both lists
+ *   of steps where no source is missing. So a packet that is NULL is an empty one, and not refused:
+ *   look at a pointer that may be NULL before you lend it. Progress is not NULL: it is always an
+ *   array of WH_MAX_K numbers.
  *
  * WARNINGS
  *   With -Wall, gcc and clang warn where a call's number or struct is not looked at at all, and
@@ -135,9 +153,9 @@
 
 #include "windhawker_limits.h"
 
-#define WH_VERSION "0.4.0"
+#define WH_VERSION "0.5.0"
 #define WH_VERSION_MAJOR 0
-#define WH_VERSION_MINOR 4
+#define WH_VERSION_MINOR 5
 
 /* What a compiler is told about the calls; one that does not know the words is told nothing.
  * WH_LOOK_AT_IT: the answer is looked at. WH_READS(3, 4): parameter 3 is a buffer that is read, of
@@ -214,6 +232,9 @@ static inline const char *wh_meaning(uint64_t number)
     case WH_FAMILY: return "the family is outside 1 to " WH_TEXT(WH_FAMILIES);
     case WH_BLOCK_TURN: return "the block's N(S) is out of turn";
     case WH_BLOCK_END: return "the run ends with M set, or goes on after a block without it";
+    case WH_STEPS_UNEQUAL: return "the lists of steps differ in length";
+    case WH_STEP_NOT_BARE: return "a step is not bare when its turn comes";
+    case WH_STEPS_EARLY: return "the list of steps ends before all missing sources are finished";
     case WH_CUT: return "the size to cut a packet by is outside 1 to " WH_TEXT(WH_MAX_INFORMATION);
     default: return "no number of the list";
     }
@@ -406,6 +427,41 @@ static inline wh_stepped wh_next_step(uint64_t k, uint64_t m, uint64_t l, const 
         whx_next_step(k, m, l, wh_read_place(table), table == NULL ? 0 : table_len, marks, progress,
                       &stepped.parity, &stepped.source, stepped.progress);
     return stepped;
+}
+
+/* ---- Lists of steps -------------------------------------------------------------------------- */
+
+typedef struct {
+    uint64_t number;
+    uint64_t place; /* from 1, that of the first step that is not bare; with WH_STEPS_EARLY how many
+                       steps the list has; else 0 */
+} wh_checked;
+
+WH_LOOK_AT_IT
+uint64_t whx_check_steps(uint64_t k, uint64_t m, uint64_t l, const uint8_t *table,
+                         uint64_t table_len, uint64_t marks, const uint8_t *parities,
+                         uint64_t parities_len, const uint8_t *sources, uint64_t sources_len,
+                         uint64_t *place);
+
+/* Checks a list of steps from progress 0: one byte of parities and one of sources for each step,
+ * as above. Done, the list is an order of steps that finishes all missing sources, whoever wrote it
+ * and in whichever order. With WH_STEP_NOT_BARE the place is that of the first step that is not
+ * bare, from 1; with WH_STEPS_EARLY it is the length of the list; else it is 0. Lists of any length
+ * may be lent; wh_walk counts the steps of a right one. WH_PACKET is about the marks only, and
+ * WH_STALL does not occur: where the decoding stalls, no list is right.
+ * Checks 1 2 3 6 7 22 23 24. */
+WH_LOOK_AT_IT WH_READS(4, 5) WH_READS(7, 8) WH_READS(9, 10)
+static inline wh_checked wh_check_steps(uint64_t k, uint64_t m, uint64_t l, const uint8_t *table,
+                                        uint64_t table_len, uint64_t marks, const uint8_t *parities,
+                                        uint64_t parities_len, const uint8_t *sources,
+                                        uint64_t sources_len)
+{
+    wh_checked checked;
+    checked.number =
+        whx_check_steps(k, m, l, wh_read_place(table), table == NULL ? 0 : table_len, marks,
+                        wh_read_place(parities), parities == NULL ? 0 : parities_len,
+                        wh_read_place(sources), sources == NULL ? 0 : sources_len, &checked.place);
+    return checked;
 }
 
 /* ---- Rebuild, repair, look ------------------------------------------------------------------- */

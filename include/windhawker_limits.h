@@ -41,6 +41,9 @@
 #define WH_FAMILY 19
 #define WH_BLOCK_TURN 20
 #define WH_BLOCK_END 21
+#define WH_STEPS_UNEQUAL 22
+#define WH_STEP_NOT_BARE 23
+#define WH_STEPS_EARLY 24
 #define WH_CUT 36
 
 #endif

@@ -2,6 +2,8 @@
  *
  *   4_steps            with the house table, shifts 0 1 and 0 2
  *   4_steps 0 7 0 7    with these shifts: parity 1's two, then parity 2's
+ *   4_steps list       the steps alone, one `parity source` to a line, as lesson 8 reads them;
+ *                      shifts may follow
  *
  * MARKS says which two cards are at hand. With 12 these are the two parities, and both sources are
  * lost. wh_next_step says which pair is bare; the program reads that bit in the parity and draws
@@ -13,7 +15,7 @@
 enum { K = 2, M = 2, L = 1, BITS = 8 * L, MARKS = 12 };
 
 static const char usage[] =
-    "usage: 4_steps [SHIFT SHIFT SHIFT SHIFT], parity 1's two, then parity 2's, "
+    "usage: 4_steps [list] [SHIFT SHIFT SHIFT SHIFT], parity 1's two, then parity 2's, "
     "each 0 to " WH_TEXT(WH_MAX_SHIFT) "\n";
 
 typedef struct {
@@ -215,6 +217,18 @@ static void decode(decoding *d)
     draw(d, &step);
 }
 
+/* All steps, one to a line and nothing else. No bit is read: which pairs are bare depends on the
+ * table and the progress, not on what stands on the cards. */
+static void list_steps(decoding *d)
+{
+    wh_stepped step = next_step(d);
+    while (step.parity != 0) {
+        printf("%" PRIu64 " %" PRIu64 "\n", step.parity, step.source);
+        memcpy(d->progress, step.progress, sizeof d->progress);
+        step = next_step(d);
+    }
+}
+
 /* ---- The words around it ---- */
 
 /* Says whether the words are the shifts of a table, which is then theirs. */
@@ -251,14 +265,20 @@ static void say_what_is_lost(void)
 int main(int words, char **word)
 {
     decoding d = {.table = {0}};
-    if (words == 1) {
+    int list = words > 1 && strcmp(word[1], "list") == 0;
+    int first_shift = list ? 2 : 1; /* among the words */
+    if (words == first_shift) {
         must(wh_family_table(K, M, WH_HOUSE, d.table, sizeof d.table), "wh_family_table");
-    } else if (!read_table(words - 1, word + 1, d.table)) {
+    } else if (!read_table(words - first_shift, word + first_shift, d.table)) {
         fputs(usage, stderr);
         return 2;
     }
     wh_walked walked = wh_walk(K, M, L, d.table, sizeof d.table, MARKS);
     must(walked.number, "wh_walk");
+    if (list) {
+        list_steps(&d);
+        return 0;
+    }
 
     begin(&d);
     say_what_is_lost();

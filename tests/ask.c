@@ -8,23 +8,31 @@
 #include <stdio.h>
 #include <string.h>
 
-enum { WORDS_MOST = 500 };
+enum { WORDS_MOST = 700, BYTES_TOLD = 16 };
+
+/* Adds the first bytes of a buffer to the words, of which so many are used; gives how many then. */
+static int describe_bytes(const char *name, const bytes *told, char *words, int used)
+{
+    used += snprintf(words + used, (size_t)(WORDS_MOST - used), " %s", name);
+    for (size_t i = 0; i < told->length && i < BYTES_TOLD; i++) {
+        used += snprintf(words + used, (size_t)(WORDS_MOST - used), " %02X", told->at[i]);
+    }
+    return used;
+}
 
 static void describe(const question *q, char *words)
 {
     int used = snprintf(words, WORDS_MOST,
                         "k %" PRIu64 " m %" PRIu64 " l %" PRIu64 " family %" PRIu64
                         " marks %" PRIu64 " packet %" PRIu64 " source %" PRIu64 " size %" PRIu64
-                        " lengths %zu %zu %zu %zu table",
+                        " lengths %zu %zu %zu %zu %zu %zu, in hex:",
                         q->k, q->m, q->l, q->family, q->marks, q->packet, q->source, q->size,
-                        q->table.length, q->input.length, q->rebuilt.length, q->output.length);
-    for (size_t i = 0; i < q->table.length && i < 16; i++) {
-        used += snprintf(words + used, (size_t)(WORDS_MOST - used), " %d", q->table.at[i]);
-    }
-    used += snprintf(words + used, (size_t)(WORDS_MOST - used), " input");
-    for (size_t i = 0; i < q->input.length && i < 16; i++) {
-        used += snprintf(words + used, (size_t)(WORDS_MOST - used), " %02X", q->input.at[i]);
-    }
+                        q->table.length, q->input.length, q->rebuilt.length,
+                        q->step_parities.length, q->step_sources.length, q->output.length);
+    used = describe_bytes("table", &q->table, words, used);
+    used = describe_bytes("input", &q->input, words, used);
+    used = describe_bytes("parities of steps", &q->step_parities, words, used);
+    describe_bytes("sources of steps", &q->step_sources, words, used);
 }
 
 static void fail_at(const call *asked, const question *q, const char *what)
@@ -138,13 +146,24 @@ static void draw_done(const call *asked, question *q)
 }
 
 /* The model is told the lengths of `meant`. */
-static void compare_lent(const call *asked, const question *held, const question *said,
+static void compare_lent(const call *asked, const question *held, lending way, const question *said,
                          const question *meant)
 {
     uint8_t right_output[BYTES_MOST];
     memcpy(right_output, held->output.at, held->output.length);
     answer right = asked->model(meant, right_output);
-    expect_lent(asked, held, NULL_IF_EMPTY, said, &right, right_output);
+    expect_lent(asked, held, way, said, &right, right_output);
+}
+
+/* Whether every buffer of the choice has bytes. If not, a smaller choice asks the same. */
+static bool all_have_bytes(question *q, unsigned choice)
+{
+    for (size_t buffer = 0; buffer < LENT_BUFFERS; buffer++) {
+        if ((choice >> buffer & 1) == 1 && lent_buffer(q, buffer)->length == 0) {
+            return false;
+        }
+    }
+    return true;
 }
 
 static question without_bytes_in(question q, unsigned choice)
@@ -163,12 +182,15 @@ void compare_null(const call *asked, uint64_t questions)
     for (uint64_t i = 0; i < questions; i++) {
         draw_done(asked, &said);
         for (unsigned choice = 1; choice < 1u << LENT_BUFFERS; choice++) {
-            question held = without_bytes_in(said, choice);
-            compare_lent(asked, &held, &said, &held);
+            if (all_have_bytes(&said, choice)) {
+                question held = without_bytes_in(said, choice);
+                compare_lent(asked, &held, NULL_IF_EMPTY, &said, &held);
+            }
         }
     }
 }
 
+/* A buffer of no bytes is not NULL here, which has none whatever is said of it. */
 void compare_too_long(const call *asked, uint64_t questions)
 {
     static const uint64_t lost_when_cut[] = {(uint64_t)1 << 32, (uint64_t)1 << 63,
@@ -179,7 +201,7 @@ void compare_too_long(const call *asked, uint64_t questions)
         for (size_t place = 0; place < 3 * LENT_BUFFERS; place++) {
             question said = held;
             lent_buffer(&said, place / 3)->length += lost_when_cut[place % 3];
-            compare_lent(asked, &held, &said, &said);
+            compare_lent(asked, &held, FLUSH_AT_END, &said, &said);
         }
     }
 }

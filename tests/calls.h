@@ -6,6 +6,7 @@
 #include "calls_chain.h"
 #include "calls_encode.h"
 #include "calls_rebuild.h"
+#include "calls_steps.h"
 #include "calls_table.h"
 #include "calls_walk.h"
 
@@ -19,6 +20,7 @@ static const call *const calls[] = {
     &encode_one_call,
     &walk_call,
     &next_step_call,
+    &check_steps_call,
     &rebuild_call,
     &repair_call,
     &look_call,

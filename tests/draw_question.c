@@ -201,6 +201,16 @@ void damage(bytes *packets)
     }
 }
 
+void fit_steps(question *q)
+{
+    steps list;
+    list_steps(q, random_below, &list);
+    size_t length = list.length < BYTES_MOST ? list.length : BYTES_MOST;
+    q->step_parities.length = q->step_sources.length = length;
+    memcpy(q->step_parities.at, list.parities, length);
+    memcpy(q->step_sources.at, list.sources, length);
+}
+
 void draw_for_family_table(question *q)
 {
     draw_shape(q);
@@ -253,6 +263,17 @@ void draw_for_next_step(question *q)
     draw_for_survivors_length(q);
     for (uint64_t b = 1; b <= q->k; b++) {
         q->progress[b - 1] = missing(q, b) ? random_between(0, source_bits(q)) : 0;
+    }
+}
+
+/* A complete order, or as far as it goes before a stall; or, one in four, cut off anywhere. */
+void draw_for_check_steps(question *q)
+{
+    draw_for_survivors_length(q);
+    fit_steps(q);
+    if (random_below(4) == 0) {
+        q->step_parities.length = (size_t)random_below(q->step_parities.length + 1);
+        q->step_sources.length = q->step_parities.length;
     }
 }
 

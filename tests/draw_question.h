@@ -34,6 +34,9 @@ void fit_sources(question *q, uint64_t output_length);
 void fit_survivors(question *q, uint64_t output_length); /* encoded from random sources */
 void damage(bytes *packets);
 
+/* The steps of a walk, in a random order, until nothing is bare or a list is full. */
+void fit_steps(question *q);
+
 /* Whole questions, one maker for each call. */
 void draw_for_family_table(question *q);
 void draw_for_judge(question *q);
@@ -44,6 +47,7 @@ void draw_for_encode_all(question *q);
 void draw_for_encode_one(question *q);
 void draw_for_walk(question *q);
 void draw_for_next_step(question *q);
+void draw_for_check_steps(question *q);
 void draw_for_rebuild(question *q);
 void draw_for_repair(question *q);
 void draw_for_look(question *q);
@@ -52,12 +56,13 @@ void draw_for_read_blocks(question *q);
 void draw_for_write_blocks(question *q);
 
 /* Spoiling one place, at random or with a chosen value of the row of telling ones. The places are
- * eight numbers, each source's progress, four lengths, any byte of the table or of the input. */
+ * eight numbers, each source's progress, six lengths, any byte of the table, of the input and of
+ * each of the two lists of steps. */
 enum {
     PROGRESS_PLACE = 8,
     LENGTH_PLACE = PROGRESS_PLACE + WH_MAX_K,
     BYTE_PLACE = LENGTH_PLACE + LENT_BUFFERS,
-    SPOILED_PLACES = BYTE_PLACE + 2,
+    SPOILED_PLACES = BYTE_PLACE + 4,
     TELLING_VALUES = 29
 };
 void spoil(question *q);

@@ -10,7 +10,7 @@
 /* A whole number of pages on every machine that the tests run on. */
 enum { REGION = 65536 };
 
-enum { PROGRESS, TABLE, INPUT, REBUILT, OUTPUT, REGIONS };
+enum { PROGRESS, TABLE, INPUT, REBUILT, STEP_PARITIES, STEP_SOURCES, OUTPUT, REGIONS };
 
 static uint8_t *regions[REGIONS];
 
@@ -54,8 +54,17 @@ lent lend(const question *q, lending way)
     at.table = place(TABLE, q->table.at, q->table.length, way);
     at.input = place(INPUT, q->input.at, q->input.length, way);
     at.rebuilt = place(REBUILT, q->rebuilt.at, q->rebuilt.length, way);
+    at.step_parities = place(STEP_PARITIES, q->step_parities.at, q->step_parities.length, way);
+    at.step_sources = place(STEP_SOURCES, q->step_sources.at, q->step_sources.length, way);
     at.output = place(OUTPUT, q->output.at, q->output.length, way);
     return at;
+}
+
+void lend_lists(lent *at, const uint8_t *parities, const uint8_t *sources, size_t length,
+                lending way)
+{
+    at->step_parities = place(STEP_PARITIES, parities, length, way);
+    at->step_sources = place(STEP_SOURCES, sources, length, way);
 }
 
 static bool kept(const uint8_t *at, const bytes *old)
@@ -67,5 +76,6 @@ bool inputs_kept(const question *q, const lent *at)
 {
     return memcmp(at->progress, q->progress, sizeof q->progress) == 0 &&
            kept(at->table, &q->table) && kept(at->input, &q->input) &&
-           kept(at->rebuilt, &q->rebuilt);
+           kept(at->rebuilt, &q->rebuilt) && kept(at->step_parities, &q->step_parities) &&
+           kept(at->step_sources, &q->step_sources);
 }

@@ -11,6 +11,8 @@ typedef struct {
     const uint8_t *table;
     const uint8_t *input;
     const uint8_t *rebuilt;
+    const uint8_t *step_parities;
+    const uint8_t *step_sources;
     uint8_t *output;
 } lent;
 
@@ -22,6 +24,10 @@ typedef enum {
 
 /* Copies the question's bytes into guarded buffers. The last ones lent are no longer valid. */
 lent lend(const question *q, lending way);
+
+/* Lends these lists in place of the question's, which may be too short for them. */
+void lend_lists(lent *at, const uint8_t *parities, const uint8_t *sources, size_t length,
+                lending way);
 
 /* Whether everything that was lent for reading still has the question's bytes. */
 bool inputs_kept(const question *q, const lent *at);

@@ -21,6 +21,7 @@ model_call model_encode_all;       /* results: none */
 model_call model_encode_one;       /* results: none */
 model_call model_walk;             /* results: count, whole, progress */
 model_call model_next_step;        /* results: parity, source, progress */
+model_call model_check_steps;      /* results: place */
 model_call model_rebuild;          /* results: count */
 model_call model_repair;           /* results: none */
 model_call model_look;             /* results: buffer, start, length */
@@ -63,6 +64,27 @@ bool bare(const question *q, const uint64_t *progress, uint64_t a, uint64_t b);
 bool whole(const question *q, const walked *walk);
 walked walk_lowest_first(const question *q);
 walked walk_in_random_order(const question *q);
+
+/* A list of steps, with room for one more than the longest walk has. */
+enum { STEPS_MOST = WH_MAX_K * 8 * WH_MAX_LENGTH + 1 };
+
+typedef struct {
+    size_t length;
+    uint8_t parities[STEPS_MOST], sources[STEPS_MOST];
+} steps;
+
+/* Which of so many bare pairs, lowest parity first, the next step takes, counted from 0;
+ * random_below is one too. */
+typedef uint64_t chooser(uint64_t found);
+chooser the_first;
+chooser the_last;
+
+/* Lists the steps of a walk in the chosen order, until nothing is bare. */
+void list_steps(const question *q, chooser *choose, steps *list);
+
+/* The answer for two lists of this length, which may be longer than a question's. */
+answer answer_to_steps(const question *q, const uint8_t *parities, const uint8_t *sources,
+                       size_t length);
 
 /* A block: the number of the first check among 11 to 15 that refuses these bytes, or WH_DONE; N(S)
  * and M of one that was not refused. */

@@ -53,29 +53,57 @@ bool whole(const question *q, const walked *walk)
     return true;
 }
 
-/* Each step takes one of the first `most` bare pairs, at random. */
-static walked walk_among(const question *q, uint64_t most)
+static void write_step(steps *list, const pair *taken)
+{
+    list->parities[list->length] = (uint8_t)taken->parity;
+    list->sources[list->length] = (uint8_t)taken->source;
+    list->length++;
+}
+
+/* Each step takes the chosen one of the first `most` bare pairs, and is written down unless there
+ * is no list. */
+static walked walk_among(const question *q, uint64_t most, chooser *choose, steps *list)
 {
     walked walk = {0, {0}};
     pair pairs[WH_MAX_K * WH_MAX_M];
     uint64_t found = bare_pairs(q, walk.progress, pairs, most);
     while (found > 0) {
-        uint64_t chosen = found > 1 ? random_below(found) : 0;
-        walk.progress[pairs[chosen].source - 1]++;
+        const pair *taken = &pairs[choose(found)];
+        if (list != NULL) {
+            write_step(list, taken);
+        }
+        walk.progress[taken->source - 1]++;
         walk.count++;
         found = bare_pairs(q, walk.progress, pairs, most);
     }
     return walk;
 }
 
+uint64_t the_first(uint64_t found)
+{
+    (void)found;
+    return 0;
+}
+
+uint64_t the_last(uint64_t found)
+{
+    return found - 1;
+}
+
 walked walk_lowest_first(const question *q)
 {
-    return walk_among(q, 1);
+    return walk_among(q, 1, the_first, NULL);
 }
 
 walked walk_in_random_order(const question *q)
 {
-    return walk_among(q, WH_MAX_K * WH_MAX_M);
+    return walk_among(q, WH_MAX_K * WH_MAX_M, random_below, NULL);
+}
+
+void list_steps(const question *q, chooser *choose, steps *list)
+{
+    list->length = 0;
+    walk_among(q, WH_MAX_K * WH_MAX_M, choose, list);
 }
 
 answer model_walk(const question *q, uint8_t *output)

@@ -69,6 +69,9 @@ static void numbers(void)
         {"WH_FAMILY", WH_FAMILY, 19},
         {"WH_BLOCK_TURN", WH_BLOCK_TURN, 20},
         {"WH_BLOCK_END", WH_BLOCK_END, 21},
+        {"WH_STEPS_UNEQUAL", WH_STEPS_UNEQUAL, 22},
+        {"WH_STEP_NOT_BARE", WH_STEP_NOT_BARE, 23},
+        {"WH_STEPS_EARLY", WH_STEPS_EARLY, 24},
         {"WH_CUT", WH_CUT, 36},
     };
     expect_pinned(names, sizeof names / sizeof names[0]);

@@ -2,7 +2,8 @@
 
 bytes *lent_buffer(question *q, size_t buffer)
 {
-    bytes *buffers[LENT_BUFFERS] = {&q->table, &q->input, &q->rebuilt, &q->output};
+    bytes *buffers[LENT_BUFFERS] = {&q->table,         &q->input,        &q->rebuilt,
+                                    &q->step_parities, &q->step_sources, &q->output};
     return buffers[buffer];
 }
 

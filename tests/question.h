@@ -8,7 +8,8 @@
 #include <stddef.h>
 #include <stdint.h>
 
-/* More bytes than any call takes; and the results of the walk, which gives most. */
+/* More bytes than any call takes, but for the longest lists of steps, which have a test of their
+ * own; and the results of the walk, which gives most. */
 enum { BYTES_MOST = WH_MAX_K * WH_LONGEST + 128, RESULTS_MOST = 2 + WH_MAX_K };
 
 /* The bytes of a block beside its information: NAD, PCB, LEN and LRC. */
@@ -30,11 +31,13 @@ typedef struct {
     bytes table;
     bytes input;   /* the sources, the packets at hand, the block or blocks, the packet to cut */
     bytes rebuilt; /* the rebuilt sources, for the look */
-    bytes output;  /* with its old bytes */
+    bytes step_parities; /* a list of steps: the parity of each */
+    bytes step_sources;  /* and the source of each */
+    bytes output;        /* with its old bytes */
 } question;
 
-/* Its four buffers: the table, the input, the rebuilt sources, the output. */
-enum { LENT_BUFFERS = 4 };
+/* Its six buffers: the table, the input, the rebuilt sources, the two lists, the output. */
+enum { LENT_BUFFERS = 6 };
 bytes *lent_buffer(question *q, size_t buffer);
 
 typedef struct {

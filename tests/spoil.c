@@ -62,10 +62,17 @@ static size_t telling_length(size_t old, size_t value)
     return length <= BYTES_MOST ? length : BYTES_MOST;
 }
 
+static bytes *bytes_at(question *q, size_t place)
+{
+    bytes *spoiled[SPOILED_PLACES - BYTE_PLACE] = {&q->table, &q->input, &q->step_parities,
+                                                   &q->step_sources};
+    return spoiled[place - BYTE_PLACE];
+}
+
 static void spoil_byte(bytes *at, size_t value)
 {
     static const uint8_t telling[] = {
-        0, 1, 0x20, WH_MAX_SHIFT - 1, WH_MAX_SHIFT, WH_MAX_SHIFT + 1, 0x60, 128, 255,
+        0, 1, WH_MAX_K + 1, 0x20, WH_MAX_SHIFT - 1, WH_MAX_SHIFT, WH_MAX_SHIFT + 1, 0x60, 128, 255,
     };
     if (at->length > 0) {
         at->at[random_below(at->length)] = telling[value % sizeof telling];
@@ -81,7 +88,7 @@ void spoil_place(question *q, size_t place, size_t value)
     } else if (buffer != NULL) {
         buffer->length = telling_length(buffer->length, value);
     } else {
-        spoil_byte(place == BYTE_PLACE ? &q->table : &q->input, value);
+        spoil_byte(bytes_at(q, place), value);
     }
 }
 

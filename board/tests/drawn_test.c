@@ -2,6 +2,7 @@
 #include "calls_block.h"
 #include "calls_chain.h"
 #include "calls_encode.h"
+#include "calls_steps.h"
 #include "calls_table.h"
 #include "calls_walk.h"
 #include "check.h"
@@ -55,6 +56,11 @@ static void walk(void)
 static void next_step(void)
 {
     compare_drawn(&next_step_call);
+}
+
+static void check_steps(void)
+{
+    compare_drawn(&check_steps_call);
 }
 
 static void block(void)
@@ -114,6 +120,7 @@ int main(void)
         {"drawn_encode_one", encode_one},
         {"drawn_walk", walk},
         {"drawn_next_step", next_step},
+        {"drawn_check_steps", check_steps},
         {"drawn_block", block},
         {"drawn_read_blocks", read_blocks},
         {"drawn_write_blocks", write_blocks},

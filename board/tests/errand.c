@@ -20,8 +20,9 @@ static void write_deepest(void)
 {
     static const char *const names[CALLS] = {
         "family_table", "judge",      "packet_length", "parities_length", "survivors_length",
-        "encode_all",   "encode_one", "walk",          "next_step",       "rebuild",
-        "repair",       "look",       "block",         "read_blocks",     "write_blocks"};
+        "encode_all",   "encode_one", "walk",          "next_step",       "check_steps",
+        "rebuild",      "repair",     "look",          "block",           "read_blocks",
+        "write_blocks"};
     FILE *file = fopen("deepest", "a");
     for (int i = 0; file != NULL && i < CALLS; i++) {
         if (deepest[i] > 0) {

@@ -9,7 +9,8 @@
 #include <stddef.h>
 #include <stdint.h>
 
-enum { TABLE, INPUT, REBUILT, OUTPUT, BUFFERS };
+/* The second input is look's rebuilt sources, or the sources of a list of steps. */
+enum { TABLE, INPUT, SECOND_INPUT, OUTPUT, BUFFERS };
 enum { MARGIN = 16, MARGIN_BYTE = 0xA5, BUFFER_MOST = WH_MAX_K * WH_LONGEST + 128 };
 enum { RESULTS = 2 + WH_MAX_K };
 enum { BYTES_ASKED = BUFFERS * BUFFER_MOST, BYTES_ANSWERED = BYTES_ASKED + 2 * MARGIN };
@@ -24,6 +25,7 @@ typedef enum {
     ENCODE_ONE,
     WALK,
     NEXT_STEP,
+    CHECK_STEPS,
     REBUILD,
     REPAIR,
     LOOK,

@@ -107,6 +107,18 @@ uint64_t whx_next_step(uint64_t k, uint64_t m, uint64_t l, const uint8_t *table,
     return answered.number;
 }
 
+uint64_t whx_check_steps(uint64_t k, uint64_t m, uint64_t l, const uint8_t *table,
+                         uint64_t table_len, uint64_t marks, const uint8_t *parities,
+                         uint64_t parities_len, const uint8_t *sources, uint64_t sources_len,
+                         uint64_t *place)
+{
+    errand e = shaped_errand(CHECK_STEPS, k, m, l, table, table_len);
+    e.words.marks = marks;
+    lend_input(&e, INPUT, parities, parities_len);
+    lend_input(&e, SECOND_INPUT, sources, sources_len);
+    return run_for_one(&e, place);
+}
+
 uint64_t whx_rebuild(uint64_t k, uint64_t m, uint64_t l, const uint8_t *table, uint64_t table_len,
                      uint64_t marks, const uint8_t *packets, uint64_t packets_len, uint8_t *out,
                      uint64_t out_len, uint64_t *count)
@@ -139,7 +151,7 @@ uint64_t whx_look(uint64_t k, uint64_t m, uint64_t l, const uint8_t *table, uint
     e.words.marks = marks;
     e.words.source = source;
     lend_input(&e, INPUT, survivors, survivors_len);
-    lend_input(&e, REBUILT, rebuilt, rebuilt_len);
+    lend_input(&e, SECOND_INPUT, rebuilt, rebuilt_len);
     answered_message answered = run(&e);
     *buffer = answered.results[0];
     *start = answered.results[1];

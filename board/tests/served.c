@@ -77,6 +77,14 @@ static uint64_t next_step(void)
     return stepped.number;
 }
 
+static uint64_t check_steps(void)
+{
+    wh_checked checked = wh_check_steps(SHAPE, asked.marks, buffers[INPUT], lengths[INPUT],
+                                        buffers[SECOND_INPUT], lengths[SECOND_INPUT]);
+    set_results(checked.place, 0, NULL, 0);
+    return checked.number;
+}
+
 static uint64_t rebuild(void)
 {
     wh_rebuilt rebuilt = wh_rebuild(SHAPE, asked.marks, buffers[INPUT], lengths[INPUT],
@@ -88,7 +96,7 @@ static uint64_t rebuild(void)
 static uint64_t look(void)
 {
     wh_looked looked = wh_look(SHAPE, asked.marks, asked.source, buffers[INPUT], lengths[INPUT],
-                               buffers[REBUILT], lengths[REBUILT]);
+                               buffers[SECOND_INPUT], lengths[SECOND_INPUT]);
     set_results(looked.buffer, looked.start, &looked.length, 1);
     return looked.number;
 }
@@ -140,6 +148,8 @@ __attribute__((noinline)) static uint64_t ask(void)
         return walk();
     case NEXT_STEP:
         return next_step();
+    case CHECK_STEPS:
+        return check_steps();
     case REBUILD:
         return rebuild();
     case REPAIR:

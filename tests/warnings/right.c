@@ -19,6 +19,7 @@ uint64_t ask_all(void)
     number |= wh_encode_one(2, 2, 1, table, 4, 3, input, 4, output, 4);
     number |= wh_walk(2, 2, 1, table, 4, 12).number;
     number |= wh_next_step(2, 2, 1, table, 4, 12, progress).number;
+    number |= wh_check_steps(2, 2, 1, table, 4, 12, input, 4, rebuilt, 4).number;
     number |= wh_rebuild(2, 2, 1, table, 4, 12, input, 4, output, 4).number;
     number |= wh_repair(2, 2, 1, table, 4, 12, input, 4, 3, output, 4);
     number |= wh_look(2, 2, 1, table, 4, 12, 1, input, 4, rebuilt, 4).number;
@@ -36,6 +37,7 @@ uint64_t lend_nothing(uint8_t *maybe_null, uint64_t length)
     none |= wh_read_blocks(maybe_null, length, NULL, 0).number;
     none |= wh_write_blocks(NULL, 0, 2, maybe_null, length).number;
     none |= wh_judge(2, 2, maybe_null, length).number;
+    none |= wh_check_steps(2, 2, 1, maybe_null, length, 3, NULL, 0, NULL, 0).number;
     none |= wh_rebuild(2, 2, 1, NULL, 0, 12, maybe_null, length, NULL, 0).number;
     return none;
 }

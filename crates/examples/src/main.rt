@@ -202,6 +202,31 @@ fn walked(table: &[u8], k: u64, marks: u64) {
     say(b"\n");
 }
 
+// The entries of a list of steps.
+fn say_list(xs: &[u8]) {
+    if xs.len() == 0 {
+        say(b"none");
+        return;
+    }
+    say_entries(xs);
+}
+
+// The number and the place that a list of steps gets.
+fn checked(table: &[u8], marks: u64, parities: &[u8], sources: &[u8]) {
+    let a = steps::check_steps(2, 2, 1, table, marks, parities, sources);
+    say(b"steps marks ");
+    say_number(marks);
+    say(b", parities ");
+    say_list(parities);
+    say(b", sources ");
+    say_list(sources);
+    say(b": number ");
+    say_number(a.number);
+    say(b", place ");
+    say_number(a.place);
+    say(b"\n");
+}
+
 // Whether a table of two rows has growing differences.
 fn judged(table: &[u8]) {
     let a = family::judge::judge(2, 2, table);
@@ -426,6 +451,35 @@ fn other_table(label: &[u8], table: &[u8]) {
     judged(table);
 }
 
+// The sources of sixteen steps, and the parities of the library's own order and of another.
+const STEPPED: [u8; 16] = [1, 1, 2, 1, 2, 1, 2, 1, 2, 1, 2, 1, 2, 1, 2, 2];
+
+const OWN: [u8; 16] = [1, 2, 1, 2, 1, 2, 1, 2, 1, 2, 1, 2, 1, 2, 1, 1];
+
+const OTHER: [u8; 16] = [2, 2, 1, 2, 1, 2, 1, 2, 1, 2, 1, 2, 1, 2, 2, 2];
+
+// Lists of steps: two that are right; a tie; one of the right length; one short and one too many;
+// up to a stall; none; an entry 0; and of two lengths.
+fn step_lists() {
+    checked(&HOUSE, 12, &OWN, &STEPPED);
+    checked(&HOUSE, 12, &OTHER, &STEPPED);
+    checked(&HOUSE, 12, b"\x01\x01", b"\x01\x02");
+    checked(&HOUSE, 12, &[1u8; 16], &STEPPED);
+    checked(&HOUSE, 12, &OWN[..15], &STEPPED[..15]);
+    checked(
+        &HOUSE,
+        12,
+        b"\x01\x02\x01\x02\x01\x02\x01\x02\x01\x02\x01\x02\x01\x02\x01\x01\x01",
+        b"\x01\x01\x02\x01\x02\x01\x02\x01\x02\x01\x02\x01\x02\x01\x02\x02\x02",
+    );
+    say(b"table (0,7),(0,7): ");
+    checked(b"\x00\x07\x00\x07", 12, &[1u8; 7], &[1u8; 7]);
+    checked(&HOUSE, 3, b"", b"");
+    checked(&HOUSE, 12, b"", b"");
+    checked(&HOUSE, 12, b"\x00", b"\x01");
+    checked(&HOUSE, 12, b"\x00", b"");
+}
+
 fn other_tables() {
     other_table(b"table (0,7),(0,7): ", b"\x00\x07\x00\x07");
     other_table(b"table (0,8),(0,8): ", b"\x00\x08\x00\x08");
@@ -493,6 +547,7 @@ fn main() {
     house_tables();
     families();
     own_lengths();
+    step_lists();
     other_tables();
     numbers();
     blocks();

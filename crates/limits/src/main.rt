@@ -62,6 +62,9 @@ fn print_numbers() {
     print_macro(b"FAMILY", Number::FAMILY);
     print_macro(b"BLOCK_TURN", Number::BLOCK_TURN);
     print_macro(b"BLOCK_END", Number::BLOCK_END);
+    print_macro(b"STEPS_UNEQUAL", Number::STEPS_UNEQUAL);
+    print_macro(b"STEP_NOT_BARE", Number::STEP_NOT_BARE);
+    print_macro(b"STEPS_EARLY", Number::STEPS_EARLY);
     print_macro(b"CUT", Number::CUT);
 }
 

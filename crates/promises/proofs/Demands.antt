@@ -34,6 +34,7 @@ use Rattle.walk.specs.Read.{presentOf}
 use Rattle.walk.proofs.ReadLaws.{presentOf-blank, presentOf-kept, own-encodes, knows-none, readBy-knows, only}
 use Rattle.walk.specs.Ends.{Ended, Finishes}
 use Rattle.walk.specs.Promise.{stepChecks}
+use Rattle.steps.specs.Promise.{stepListChecks}
 use Rattle.survivors.specs.Packets.{came, cameSource, cameParity, Stray, EncodesTo}
 use Rattle.rebuild.specs.Stages.{decodeChecks}
 use Rattle.rebuild.specs.Promise.{rebuildChecks, Rebuilt}
@@ -67,6 +68,7 @@ calls-listed = record {
   encode-one = λ k m l table packet sources before number after x. (x .numbered, refl, listed-by (encodeOneChecks k m l table packet sources before) refl);
   walk = λ k m l table marks number count whole progress x. (x .numbered, refl, listed-by (markedChecks k m l table marks) refl);
   step = λ k m l table marks progress number parity source after x. (x .numbered, refl, listed-by (stepChecks k m l table marks progress) refl);
+  check-steps = λ k m l table marks parities sources number place x. (x .numbered, refl, listed-by (stepListChecks k m l table marks parities sources) refl);
   rebuild = λ k m l table marks packets before number count after x. (x .numbered, refl, listed-by (rebuildChecks k m l table marks packets before) refl);
   repair = λ k m l table marks packets packet before number after x. (x .numbered, refl, listed-by (repairChecks k m l table marks packets packet before) refl);
   look = λ k m l table marks source survivors rebuilt number buffer start bytes x. (x .numbered, refl, listed-by (lookChecks k m l table marks source survivors rebuilt) refl);
@@ -205,7 +207,7 @@ module _ (k m l : ℕ) (table : List ℕ) (marks : ℕ) where
   D = desk k m l table marks
 
   -- where differences grow, steps until none is left are every bit and finish all missing sources
-  growing-ended : Judged k m table 0 1
+  pub growing-ended : Judged k m table 0 1
       → Checked (markedChecks k m l table marks) 0
       → (n : ℕ) (e : Ended D n)
       → Whole D (e .end) × (n ≡ everyBit k l marks)
@@ -261,24 +263,24 @@ repair-gives-the-packet k m l table marks packets before packet after room count
     let same : found .0 ≡ sources = rebuilt-only k m l table marks packets room count sources y (found .0) (found .1) in
     found .2 ∙ ap (λ (v : List ℕ). packetOf (desk k m l table marks) v (packet - 1)) same
 
-pub survivors-give-the-sources : Demands.SurvivorsGiveTheSources
+-- where some order finishes, rebuild gives the sources that encode to the packets, and its count is that of an order that finishes
+pub finishing-gives-the-sources : (k m l : ℕ) (table : List ℕ) (marks : ℕ) (packets before sources : List ℕ) (number count : ℕ) (after : List ℕ)
+    → let D = desk k m l table marks in
+    Checked (markedChecks k m l table marks) 0
+    → EncodesTo D packets sources
+    → length before ≡ sourcesBytes D
+    → (((n : ℕ) → Finishes D n → ⊥) → ⊥)
+    → Rebuilt k m l table marks packets before number count after
+    → (number ≡ 0) × (after ≡ sources) × Finishes D count
 unfolding packetsOf placeOf
-survivors-give-the-sources k m l table marks packets before sources are-bytes size same room yes-said accepted number count after x =
-    (zero-number, back, growing-ended k m l table marks yes-said accepted count ended .1)
+finishing-gives-the-sources k m l table marks packets before sources number count after accepted encodes room finishes x =
+    (zero-number, sym (rebuilt-only k m l table marks packets before count after done sources encodes), rebuilt-finishes k m l table marks packets before count after done)
   where
     G : Desk
     G = desk k m l table marks
 
-    encodes : EncodesTo G packets sources
-    encodes = record { size = size; are-bytes = are-bytes; same = same }
-
     long : length packets ≡ survivorsBytes G
-    long = ap length same ∙ joined-length (mark marks) (packetOf G sources) (packetBytes G) (packet-size G sources size) (k + m)
-
-    finishes : ((n : ℕ) → Finishes G n → ⊥) → ⊥
-    finishes never =
-        let e = some-end G in
-        never (e .0) (ended-finishes G (e .0) (e .1) (growing-ended k m l table marks yes-said accepted (e .0) (e .1) .0))
+    long = ap length (encodes .same) ∙ joined-length (mark marks) (packetOf G sources) (packetBytes G) (packet-size G sources (encodes .size)) (k + m)
 
     taken : Checked (rebuildChecks k m l table marks packets before) 0
     taken =
@@ -291,11 +293,18 @@ survivors-give-the-sources k m l table marks packets before sources are-bytes si
     done : Rebuilt k m l table marks packets before 0 count after
     done = subst (λ n. Rebuilt k m l table marks packets before n count after) zero-number x
 
-    back : after ≡ sources
-    back = sym (rebuilt-only k m l table marks packets before count after done sources encodes)
-
-    ended : Ended G count
-    ended = finishes-ends G count (rebuilt-finishes k m l table marks packets before count after done)
+pub survivors-give-the-sources : Demands.SurvivorsGiveTheSources
+survivors-give-the-sources k m l table marks packets before sources are-bytes size same room yes-said accepted number count after x =
+    let G = desk k m l table marks in
+    let encodes : EncodesTo G packets sources = record { size = size; are-bytes = are-bytes; same = same } in
+    let given = finishing-gives-the-sources k m l table marks packets before sources number count after accepted encodes room finishes x in
+    (given .0, given .1, growing-ended k m l table marks yes-said accepted count (finishes-ends G count (given .2)) .1)
+  where
+    finishes : ((n : ℕ) → Finishes (desk k m l table marks) n → ⊥) → ⊥
+    finishes never =
+        let G = desk k m l table marks in
+        let e = some-end G in
+        never (e .0) (ended-finishes G (e .0) (e .1) (growing-ended k m l table marks yes-said accepted (e .0) (e .1) .0))
 
 -- the same lists, one after another
 joined-same : (on : ℕ → Bool) (f g : ℕ → List ℕ) (n : ℕ) → ((i : ℕ) → i < n → f i ≡ g i) → joined on f n ≡ joined on g n

@@ -2,7 +2,7 @@
 use mathlib.Core.Path.{_≡_, refl, subst}
 use mathlib.Core.Bool.{true}
 use mathlib.Core.List.{List, [], _∷_, _++_}
-use Prim.Native.Nat.{_+_, _-_, _*_}
+use Prim.Native.Nat.{ℕ, _+_, _-_, _*_}
 use native.Mathlib.Omega.{arith}
 use lib.Dec.{leb}
 use lib.ListN.{length}
@@ -16,16 +16,18 @@ use Rattle.table.proofs.CheckLaws.{numbered-by, goes, exactly-long}
 use Rattle.table.proofs.Taken.{lowB, insideB, sizeB, tableB, shapeB, takenB, size-taken, family-taken, number-taken, table-taken, shape-taken, taken-checked}
 use Rattle.family.proofs.Tested.{familyB, stepB, growsB, flagOf, family-table, grows-flag}
 use Rattle.code.specs.Code.{sumOf, sourcesOf, packetOf, packetsOf, paritiesOf}
-use Rattle.walk.specs.Read.{put}
+use Rattle.walk.specs.Read.{put, readAlong}
 use Rattle.walk.specs.Promise.{Walked}
 use Rattle.walk.specs.Compute.{placedOf, lowerOf, scan, sourceOf, parityOf, fullB, wholeB, walkFrom}
 use Rattle.walk.proofs.Answers.{Answer, answerOf, answer-meets}
+use Rattle.steps.specs.Promise.{StepsChecked}
+use Rattle.steps.proofs.Answers.{bareB, followFrom, checkedOf, checked-meets}
 use Rattle.survivors.specs.Packets.{cameParity}
 use Rattle.card.proofs.Examples.{two-bytes-taken, two-bytes-next-taken, no-bytes-taken, first-of-two-taken}
 use Rattle.chain.proofs.Examples.{run-read, packet-written, byte-by-byte-written, empty-written}
 use Rattle.chain.proofs.Examples.{first-alone-refused, second-first-refused, byte-behind-refused, empty-refused, byte-after-more-refused}
-use Rattle.promises.specs.Examples.{Example, family, largest, judge, packet-length, parities-length, encode, walk, rebuild, block, read, write, Met, Name, example, examples, AllMet, ExamplesMet}
-use Rattle.promises.proofs.RebuildAnswers.{bytesB, tidyB, readAlong, Outcome, stalls, strays, differs, reads, outcome-meets}
+use Rattle.promises.specs.Examples.{Example, family, largest, judge, packet-length, parities-length, encode, walk, check-steps, rebuild, block, read, write, Met, Name, example, examples, AllMet, ExamplesMet}
+use Rattle.promises.proofs.RebuildAnswers.{bytesB, tidyB, Outcome, stalls, strays, differs, reads, outcome-meets}
 
 -- what is computed of an example; of blocks nothing here
 abbrev Computed : Example → Type 0
@@ -43,6 +45,8 @@ Computed (encode k m l table sources before parities) =
     × (parities ≡ paritiesOf D sources)
 Computed (walk k m l table marks count whole progress) =
     (takenB k m l table marks ≡ true) × (answerOf (desk k m l table marks) ≡ record { count = count; whole = whole; progress = progress })
+Computed (check-steps k m l table marks parities sources number place) =
+    (takenB k m l table marks ≡ true) × (checkedOf (desk k m l table marks) parities sources ≡ (number, place))
 Computed (rebuild k m l table marks packets before number count after) =
     let D = desk k m l table marks in
     (takenB k m l table marks ≡ true)
@@ -94,6 +98,9 @@ met (encode k m l table sources before parities) c =
 met (walk k m l table marks count whole progress) c =
     let accepted = taken-checked k m l table marks (c .0) in
     subst (λ (a : Answer). Walked k m l table marks 0 (a .count) (a .whole) (a .progress)) (c .1) (answer-meets k m l table marks accepted)
+met (check-steps k m l table marks parities sources number place) c =
+    let accepted = taken-checked k m l table marks (c .0) in
+    subst (λ (r : ℕ × ℕ). StepsChecked k m l table marks parities sources (r .0) (r .1)) (c .1) (checked-meets k m l table marks parities sources accepted)
 met (rebuild k m l table marks packets before number count after) c =
     outcome-meets k m l table marks packets before (record { taken = c .0; input = c .1; output = c .2 }) (c .3)
 met (block bytes before count sequence more after) c = c
@@ -109,6 +116,10 @@ walking : Unit {0}
 unfolding answerOf walkFrom parityOf sourceOf lowest placedOf lowerOf scan allB oneAt sum fullB wholeB
 walking = tt
 
+following : Unit {0}
+unfolding checkedOf followFrom bareB
+following = tt
+
 coding : Unit {0}
 unfolding reach packetBits packetBytes placeOf sumOf sourcesOf packetOf packetsOf bit bitAt up fromBits bytesOf joined
 coding = tt
@@ -118,7 +129,7 @@ unfolding bytesB tidyB readAlong put cameParity
 reading = tt
 
 computed : (n : Name) → Computed (example n)
-unfolding accepting walking coding reading
+unfolding accepting walking following coding reading
 computed Name.family-house = (refl, refl, refl, refl)
 computed Name.family-hankel-tall = (refl, refl, refl, refl)
 computed Name.family-hankel-wide = (refl, refl, refl, refl)
@@ -142,6 +153,17 @@ computed Name.walk-no-parity = (refl, refl)
 computed Name.walk-seven = (refl, refl)
 computed Name.walk-eight = (refl, refl)
 computed Name.walk-stuck = (refl, refl)
+computed Name.steps-own-order = (refl, refl)
+computed Name.steps-another-order = (refl, refl)
+computed Name.steps-tie = (refl, refl)
+computed Name.steps-right-length = (refl, refl)
+computed Name.steps-one-short = (refl, refl)
+computed Name.steps-one-more = (refl, refl)
+computed Name.steps-seven = (refl, refl)
+computed Name.steps-none-missing = (refl, refl)
+computed Name.steps-none-written = (refl, refl)
+computed Name.steps-nought = (refl, refl)
+computed Name.steps-unequal = (refl, refl)
 computed Name.rebuild-both-parities = (refl, refl, refl, reads refl refl refl refl)
 computed Name.rebuild-one-parity = (refl, refl, refl, reads refl refl refl refl)
 computed Name.rebuild-no-parity = (refl, refl, refl, reads refl refl refl refl)

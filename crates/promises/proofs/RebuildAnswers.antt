@@ -22,14 +22,14 @@ use Rattle.table.proofs.Taken.{takenB, taken-checked}
 use Rattle.code.specs.Code.{Bits, sourcesOf, parity, survivorsOf, Short}
 use Rattle.bits.proofs.SliceLaws.{slice-past}
 use Rattle.code.proofs.CodeLaws.{desk-short}
-use Rattle.walk.specs.Walk.{Order, bump, Stuck, Run, done, step, Fits, Whole}
-use Rattle.walk.specs.Read.{learn, readBy}
+use Rattle.walk.specs.Walk.{Order, Stuck, Run, Fits, Whole}
+use Rattle.walk.specs.Read.{readBy, readAlong}
 use Rattle.walk.specs.Compute.{wholeB, walkFrom}
 use Rattle.walk.proofs.Runs.{run-fits}
 use Rattle.walk.proofs.Totals.{all-most}
 use Rattle.walk.proofs.Computed.{walk-ends, whole-of, of-whole}
 use Rattle.walk.proofs.Reached.{at-noughts}
-use Rattle.walk.proofs.ReadLaws.{parity-same, only}
+use Rattle.walk.proofs.ReadLaws.{parity-same, read-along, only}
 use Rattle.walk.specs.Ends.{Ended, Finishes}
 use Rattle.survivors.specs.Packets.{came, Stray, EncodesTo, cameParity}
 use Rattle.survivors.proofs.CameLaws.{encodes-bits, encoded-not-stray}
@@ -104,16 +104,6 @@ module _ (D : Desk) where
     walk-stalls : wholeB D reached ≡ false → (n : ℕ) → Finishes D n → ⊥
     walk-stalls e n F = true≢false (sym (of-whole D reached (finishes-ended D steps n walk-ended F)) ∙ e)
 
-  -- what the steps of an order read, computed along the order
-  unfoldable pub readAlong : Bits → Order → (ℕ → ℕ) → Bits → Bits
-  readAlong r [] g s = s
-  readAlong r ((a, b) ∷ o) g s = readAlong r o (bump g b) (learn D r s g a b)
-
-  read-along : (r : Bits) {g h : ℕ → ℕ} {o : Order} (u : Run D g o h) (s : Bits) → readBy D r u s ≡ readAlong r o g s
-  unfolding readBy readAlong
-  read-along r done s = refl
-  read-along r (step a b B u) s = read-along r u _
-
   module _ (packets : List ℕ) where
     -- the present sources as they came, and blanks
     abbrev cameIn : Bits
@@ -121,7 +111,7 @@ module _ (D : Desk) where
 
     -- what the walk reads
     abbrev walkRead : Bits
-    walkRead = readAlong (cameParity D packets) (walked .0) (λ c. 0) cameIn
+    walkRead = readAlong D (cameParity D packets) (walked .0) (λ c. 0) cameIn
 
     -- what was read does not encode to parity a at bit q: then no sources encode to the packets
     nothing-encodes : ((x : List ℕ) → Short D x) → k ≤ maxK → wholeB D reached ≡ true → (a q : ℕ) → a < m → present (k + a) ≡ true
@@ -131,7 +121,7 @@ module _ (D : Desk) where
         let u = walk-run few .0 in
         let E = encodes-bits D packets x (short x) cameIn (λ c p _ f. rw f) X in
         let same = only D r cameIn (λ c p gc. rw (gc .1)) u (walk-whole few e) (sourcesOf D x) E in
-        let reads = ap (λ (f : Bits). parity D f a q) (read-along r u cameIn) in
+        let reads = ap (λ (f : Bits). parity D f a q) (read-along D r u cameIn) in
         true≢false (sym (eq-eqb _ _ (E .made a q (la, on) ∙ sym (parity-same D (readBy D r u cameIn) (sourcesOf D x) same a q) ∙ reads)) ∙ differs)
 
     -- what is computed of an accepted rebuild: that the walk stalls; else that a packet has a one above its last bit, or that a parity at hand differs from what was read, or the sources

@@ -4,6 +4,7 @@ use mathlib.Core.Logic.{inl, inr}
 use mathlib.Core.List.{List, [], _∷_, _++_}
 use Prim.Native.Nat.{ℕ, _+_, _-_, _%_, _≤_}
 use native.Mathlib.Omega.{arith}
+use lib.ListN.{replicate, take}
 use Rattle.bits.specs.Sums.{at, sum}
 use Rattle.bits.specs.Bits.{bit, bitAt, up, fromBits, bytesOf}
 use Rattle.table.specs.Limits.{noughts}
@@ -19,6 +20,8 @@ use Rattle.encode.specs.Promise.{EncodedAll, EncodedOne, encodeOneChecks, Packe
 use Rattle.walk.specs.Walk.{Next, none, one}
 use Rattle.walk.specs.Promise.{Stepped, Walked}
 use Rattle.walk.proofs.OneAnswer.{one-walk}
+use Rattle.steps.specs.Promise.{StepsChecked}
+use Rattle.steps.proofs.OneAnswer.{one-checked}
 use Rattle.rebuild.specs.Stages.{decodeChecks, rebuildLengthsChecks, rebuildLentChecks}
 use Rattle.rebuild.specs.Promise.{Rebuilt}
 use Rattle.rebuild.proofs.OneAnswer.{one-rebuilt}
@@ -26,8 +29,9 @@ use Rattle.repair.specs.Stages.{repairLengthsChecks, repairLentChecks, repairNa
 use Rattle.repair.specs.Promise.{Repaired, repairChecks}
 use Rattle.promises.proofs.OneAnswer.{one-family, one-judge, one-packet-length, one-parities-length, one-encode-all}
 use Rattle.promises.proofs.Demands.{five-is-for-another-length, repair-gives-the-packet}
-use Rattle.promises.proofs.Stepping.{last, more, stepping-is-the-walk}
-use Rattle.promises.specs.Examples.{Name, house, house3, hankelTall, uneven, seven, eight, five, nine, twelve}
+use Rattle.promises.specs.StepLists.{last, more}
+use Rattle.promises.proofs.Stepping.{stepping-is-the-walk}
+use Rattle.promises.specs.Examples.{Name, house, house3, hankelTall, uneven, seven, eight, steppedSources, ownParities, otherParities, five, nine, twelve}
 use Rattle.promises.proofs.Examples.{example-met}
 
 -- ---- the buffers and packets of the examples
@@ -272,6 +276,66 @@ pub whole-without-growing-differences : {c : ℕ} {progress : List ℕ} → Walk
 whole-without-growing-differences x =
     let e = one-walk 2 2 1 eight 12 x (example-met Name.walk-eight) in
     omega (arith, e .2)
+
+-- ---- check steps
+
+-- a check that takes only the library's own order
+pub no-own-order-only : {number place : ℕ} → (number ≡ 0 → ⊥) → StepsChecked 2 2 1 house 12 otherParities steppedSources number place → ⊥
+no-own-order-only n x =
+    let e = one-checked 2 2 1 house 12 otherParities steppedSources x (example-met Name.steps-another-order) in
+    n (e .0)
+
+-- one that takes every list with as many steps as walk counts
+pub no-list-by-its-length : {place : ℕ} → StepsChecked 2 2 1 house 12 (replicate 16 1) steppedSources 0 place → ⊥
+no-list-by-its-length x =
+    let e = one-checked 2 2 1 house 12 (replicate 16 1) steppedSources x (example-met Name.steps-right-length) in
+    omega (arith, e .0)
+
+-- one that stops looking once all is whole, and takes a step too many
+pub no-step-too-many : {place : ℕ} → StepsChecked 2 2 1 house 12 (ownParities ++ 1 ∷ []) (steppedSources ++ 2 ∷ []) 0 place → ⊥
+no-step-too-many x =
+    let e = one-checked 2 2 1 house 12 (ownParities ++ 1 ∷ []) (steppedSources ++ 2 ∷ []) x (example-met Name.steps-one-more) in
+    omega (arith, e .0)
+
+-- one that takes a tie for bare, and then misses the end of a list of two
+pub no-tie-in-a-list : {place : ℕ} → StepsChecked 2 2 1 house 12 (1 ∷ 1 ∷ []) (1 ∷ 2 ∷ []) 24 place → ⊥
+no-tie-in-a-list x =
+    let e = one-checked 2 2 1 house 12 (1 ∷ 1 ∷ []) (1 ∷ 2 ∷ []) x (example-met Name.steps-tie) in
+    omega (arith, e .0)
+
+-- a place counted from 0, and none told where the list ends early
+pub no-place-from-nought : StepsChecked 2 2 1 house 12 (1 ∷ 1 ∷ []) (1 ∷ 2 ∷ []) 23 1 → ⊥
+no-place-from-nought x =
+    let e = one-checked 2 2 1 house 12 (1 ∷ 1 ∷ []) (1 ∷ 2 ∷ []) x (example-met Name.steps-tie) in
+    omega (arith, e .1)
+
+pub no-early-end-without-its-place : StepsChecked 2 2 1 house 12 (take 15 ownParities) (take 15 steppedSources) 24 0 → ⊥
+no-early-end-without-its-place x =
+    let e = one-checked 2 2 1 house 12 (take 15 ownParities) (take 15 steppedSources) x (example-met Name.steps-one-short) in
+    omega (arith, e .1)
+
+-- entry 0 taken for 1: the list then ends early; and 6 given for it
+pub no-nought-for-one : {place : ℕ} → StepsChecked 2 2 1 house 12 (0 ∷ []) (1 ∷ []) 24 place → ⊥
+no-nought-for-one x =
+    let e = one-checked 2 2 1 house 12 (0 ∷ []) (1 ∷ []) x (example-met Name.steps-nought) in
+    omega (arith, e .0)
+
+pub no-six-for-an-entry : {place : ℕ} → StepsChecked 2 2 1 house 12 (0 ∷ []) (1 ∷ []) 6 place → ⊥
+no-six-for-an-entry x =
+    let e = one-checked 2 2 1 house 12 (0 ∷ []) (1 ∷ []) x (example-met Name.steps-nought) in
+    omega (arith, e .0)
+
+-- 8 at a stall
+pub no-eight-for-a-list : {place : ℕ} → StepsChecked 2 2 1 seven 12 (replicate 7 1) (replicate 7 1) 8 place → ⊥
+no-eight-for-a-list x =
+    let e = one-checked 2 2 1 seven 12 (replicate 7 1) (replicate 7 1) x (example-met Name.steps-seven) in
+    omega (arith, e .0)
+
+-- 23 checked before 22: a list with a bad step and one source too few
+pub no-twenty-three-before-twenty-two : {place : ℕ} → StepsChecked 2 2 1 house 12 (0 ∷ []) [] 23 place → ⊥
+no-twenty-three-before-twenty-two x =
+    let e = one-checked 2 2 1 house 12 (0 ∷ []) [] x (example-met Name.steps-unequal) in
+    omega (arith, e .0)
 
 -- ---- rebuild
 

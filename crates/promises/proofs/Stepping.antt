@@ -1,59 +1,54 @@
 -- Next step, called again and again: it takes as many calls as walk counts steps, and ends where walk ends. Assumes nothing.
-use mathlib.Core.Path.{_≡_, refl, sym, _∙_, subst, ap}
+use mathlib.Core.Path.{_≡_, refl, sym, _∙_, subst, ap, ap₂}
 use mathlib.Core.List.{List, [], _∷_}
-use Prim.Native.Nat.{ℕ, suc, _+_, _≤_}
+use Prim.Native.Nat.{ℕ, _+_, _≤_}
 use native.Mathlib.Omega.{arith}
-use lib.ListN.{length, length-set}
+use lib.ListN.{length, length-set, length-map}
 use lib.Seq.{ext-getD}
 use Rattle.bits.specs.Sums.{at}
 use Rattle.table.specs.Desk.{Desk, desk}
 use Rattle.table.proofs.ShapeLaws.{shaped, marked-parts}
 use Rattle.walk.specs.Walk.{Order, Stuck, Run, done, step, Next, none, one}
 use Rattle.table.specs.Limits.{noughts}
-use Rattle.walk.specs.Promise.{Stepped, Walked}
+use Rattle.walk.specs.Promise.{Walked}
 use Rattle.walk.proofs.Runs.{same-end}
 use Rattle.walk.proofs.Computed.{at-bump}
 use Rattle.walk.proofs.Reached.{at-noughts}
-
--- so many accepted calls of next step lead from one progress to another, where it tells that none is left
-pub data Stepping (k m l : ℕ) (table : List ℕ) (marks : ℕ) : List ℕ → ℕ → List ℕ → Type 0 where
-  last : {g after : List ℕ} {source : ℕ} → Stepped k m l table marks g 0 0 source after → Stepping k m l table marks g 0 g
-  more : {g after end : List ℕ} {n parity source : ℕ}
-      → (parity ≡ 0 → ⊥)
-      → Stepped k m l table marks g 0 parity source after
-      → Stepping k m l table marks after n end
-      → Stepping k m l table marks g (suc n) end
+use Rattle.promises.specs.StepLists.{Lists, Stepping, last, more}
 
 module _ (D : Desk) where
-  -- what a run from here to an end looks like, of so many steps
-  record Onward (g : List ℕ) (n : ℕ) (end : List ℕ) : Type 0 where
-    order : Order
-    run : Run D (at g) order (at end)
-    counted : n ≡ length order
-    stuck : Stuck D (at end)
-    long : length end ≡ length g
+  -- what a run from here to an end looks like, and the numbers of its steps
+  pub record Onward (g parities sources end : List ℕ) : Type 0 where
+    pub order : Order
+    pub lists : Lists parities sources order
+    pub run : Run D (at g) order (at end)
+    pub stuck : Stuck D (at end)
+    pub long : length end ≡ length g
 
-  stops : {g after : List ℕ} {parity source : ℕ} → parity ≡ 0 → Next D g parity source after → Onward g 0 g
-  stops z (none s p q e) = record { order = []; run = done; counted = refl; stuck = s; long = refl }
+  stops : {g after : List ℕ} {parity source : ℕ} → parity ≡ 0 → Next D g parity source after → Onward g [] [] g
+  stops z (none s p q e) = record { order = []; lists = record { parities-are = refl; sources-are = refl }; run = done; stuck = s; long = refl }
   stops z (one a b w p q e) = absurd (never a (sym p ∙ z))
     where
       never : (a : ℕ) → a + 1 ≡ 0 → ⊥
       never a e = omega arith
 
-  steps : {g after end : List ℕ} {n parity source : ℕ}
+  steps : {g after parities sources end : List ℕ} {parity source : ℕ}
       → D .k ≤ length g
       → (parity ≡ 0 → ⊥)
       → Next D g parity source after
-      → (length after ≡ length g → Onward after n end)
-      → Onward g (suc n) end
+      → (length after ≡ length g → Onward after parities sources end)
+      → Onward g (parity ∷ parities) (source ∷ sources) end
   steps kl ne (none s p q e) r = absurd (ne p)
-  steps {g} {after} {end} kl ne (one a b w p q e) r =
+  steps {g} {after} {end = end} kl ne (one a b w p q e) r =
       let lg : length after ≡ length g = ap length e ∙ length-set g b (at g b + 1) in
       let o = r lg in
       record {
         order = (a, b) ∷ o .order;
+        lists = record {
+          parities-are = ap₂ (λ (x : ℕ) (xs : List ℕ). x ∷ xs) p (o .lists .parities-are);
+          sources-are = ap₂ (λ (x : ℕ) (xs : List ℕ). x ∷ xs) q (o .lists .sources-are);
+        };
         run = step a b (w .bare) (subst (λ (h : ℕ → ℕ). Run D h (o .order) (at end)) (ap at e ∙ at-bump g b (omega (arith, w .bare .free .0 .0))) (o .run));
-        counted = ap suc (o .counted);
         stuck = o .stuck;
         long = o .long ∙ lg;
       }
@@ -62,16 +57,17 @@ module _ (k m l : ℕ) (table : List ℕ) (marks : ℕ) where
   abbrev D : Desk
   D = desk k m l table marks
 
-  onward : {g end : List ℕ} {n : ℕ} → k ≤ length g → Stepping k m l table marks g n end → Onward D g n end
+  pub onward : {g parities sources end : List ℕ} → k ≤ length g → Stepping k m l table marks g parities sources end → Onward D g parities sources end
   onward kl (last s) = stops D refl (s .done refl)
   onward kl (more ne s u) = steps D kl ne (s .done refl) (λ e. onward (omega arith) u)
 
-  pub stepping-is-the-walk : {n c w : ℕ} {end progress : List ℕ}
-      → Stepping k m l table marks noughts n end
+  pub stepping-is-the-walk : {c w : ℕ} {parities sources end progress : List ℕ}
+      → Stepping k m l table marks noughts parities sources end
       → Walked k m l table marks 0 c w progress
-      → (n ≡ c) × (end ≡ progress)
-  stepping-is-the-walk {n} {c} {w} {end} {progress} u x =
+      → (length parities ≡ c) × (end ≡ progress)
+  stepping-is-the-walk {parities = parities} {end = end} {progress} u x =
       let f = x .done refl in
       let o = onward (shaped k m l table (marked-parts k m l table marks (x .numbered) .0) .k-high) u in
       let e = same-end D (subst (λ (h : ℕ → ℕ). Run D h (o .order) (at end)) (sym at-noughts) (o .run)) (o .stuck) (f .reached .run) (f .stuck) in
-      (o .counted ∙ e .0 ∙ sym (f .reached .counted), ext-getD 0 end progress (o .long ∙ sym (f .size)) (λ i l. ap (λ (h : ℕ → ℕ). h i) (e .1)))
+      let counted : length parities ≡ length (o .order) = ap length (o .lists .parities-are) ∙ length-map (o .order) (λ p. p .0 + 1) in
+      (counted ∙ e .0 ∙ sym (f .reached .counted), ext-getD 0 end progress (o .long ∙ sym (f .size)) (λ i l. ap (λ (h : ℕ → ℕ). h i) (e .1)))

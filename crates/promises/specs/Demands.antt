@@ -17,6 +17,7 @@ use Rattle.walk.specs.Walk.{Order, Gone, Held, Free, Stuck, Run, Whole}
 use Rattle.walk.specs.Read.{presentOf, readBy}
 use Rattle.walk.specs.Promise.{Walked, stepChecks, Stepped}
 use Rattle.walk.specs.Ends.{Finishes}
+use Rattle.steps.specs.Promise.{stepListChecks, StepsChecked}
 use Rattle.survivors.specs.Packets.{EncodesTo, cameSource, cameParity}
 use Rattle.rebuild.specs.Promise.{rebuildChecks, Rebuilt}
 use Rattle.repair.specs.Promise.{repairChecks, Repaired}
@@ -67,6 +68,9 @@ pub record CallsListed : Type 0 where
   pub step : (k m l : ℕ) (table : List ℕ) (marks : ℕ) (progress : List ℕ) (number parity source : ℕ) (after : List ℕ)
       → Stepped k m l table marks progress number parity source after
       → MadeInOrder (stepChecks k m l table marks progress) (1 ∷ 2 ∷ 3 ∷ 6 ∷ 7 ∷ 17 ∷ []) number
+  pub check-steps : (k m l : ℕ) (table : List ℕ) (marks : ℕ) (parities sources : List ℕ) (number place : ℕ)
+      → StepsChecked k m l table marks parities sources number place
+      → MadeInOrder (stepListChecks k m l table marks parities sources) (1 ∷ 2 ∷ 3 ∷ 6 ∷ 7 ∷ 22 ∷ 23 ∷ 24 ∷ []) number
   pub rebuild : (k m l : ℕ) (table : List ℕ) (marks : ℕ) (packets before : List ℕ) (number count : ℕ) (after : List ℕ)
       → Rebuilt k m l table marks packets before number count after
       → MadeInOrder (rebuildChecks k m l table marks packets before) (1 ∷ 2 ∷ 3 ∷ 6 ∷ 7 ∷ 4 ∷ 5 ∷ 8 ∷ 9 ∷ 10 ∷ []) number

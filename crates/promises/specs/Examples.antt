@@ -2,11 +2,12 @@
 use mathlib.Core.Path.{_≡_}
 use mathlib.Core.List.{List, [], _∷_, _++_}
 use Prim.Native.Nat.{ℕ}
-use lib.ListN.{replicate}
+use lib.ListN.{replicate, take}
 use Rattle.table.specs.Desk.{desk, most, reach}
 use Rattle.family.specs.Promise.{FamilyWritten, Judged}
 use Rattle.encode.specs.Promise.{EncodedAll, PacketMeasured, ParitiesMeasured}
 use Rattle.walk.specs.Promise.{Walked}
+use Rattle.steps.specs.Promise.{StepsChecked}
 use Rattle.rebuild.specs.Promise.{Rebuilt}
 use Rattle.card.specs.Promise.{BlockTaken}
 use Rattle.chain.specs.Promise.{BlocksRead, BlocksWritten}
@@ -20,6 +21,7 @@ pub data Example : Type 0 where
   parities-length : (k m l : ℕ) (table : List ℕ) (bytes : ℕ) → Example
   encode : (k m l : ℕ) (table sources before parities : List ℕ) → Example
   walk : (k m l : ℕ) (table : List ℕ) (marks count whole : ℕ) (progress : List ℕ) → Example
+  check-steps : (k m l : ℕ) (table : List ℕ) (marks : ℕ) (parities sources : List ℕ) (number place : ℕ) → Example
   rebuild : (k m l : ℕ) (table : List ℕ) (marks : ℕ) (packets before : List ℕ) (number count : ℕ) (after : List ℕ) → Example
   block : (bytes before : List ℕ) (count sequence more : ℕ) (after : List ℕ) → Example
   read : (run before : List ℕ) (number count : ℕ) (after : List ℕ) → Example
@@ -34,6 +36,7 @@ Met (packet-length k m l table packet bytes) = PacketMeasured k m l table packet
 Met (parities-length k m l table bytes) = ParitiesMeasured k m l table 0 bytes
 Met (encode k m l table sources before parities) = EncodedAll k m l table sources before 0 parities
 Met (walk k m l table marks count whole progress) = Walked k m l table marks 0 count whole progress
+Met (check-steps k m l table marks parities sources number place) = StepsChecked k m l table marks parities sources number place
 Met (rebuild k m l table marks packets before number count after) = Rebuilt k m l table marks packets before number count after
 Met (block bytes before count sequence more after) = BlockTaken bytes before 0 count sequence more after
 Met (read run before number count after) = BlocksRead run before number count after
@@ -94,11 +97,23 @@ pub data Name : Type 0 where
   encode-ones encode-high-bits encode-uneven-ones encode-uneven-high-bits : Name
   judge-house judge-seven judge-eight : Name
   walk-both-parities walk-one-parity walk-no-parity walk-seven walk-eight walk-stuck : Name
+  steps-own-order steps-another-order steps-tie steps-right-length steps-one-short steps-one-more steps-seven : Name
+  steps-none-missing steps-none-written steps-nought steps-unequal : Name
   rebuild-both-parities rebuild-one-parity rebuild-no-parity rebuild-high-bits : Name
   rebuild-one-above rebuild-past-the-row rebuild-no-sources rebuild-seven rebuild-eight rebuild-stuck : Name
   block-two-bytes block-two-bytes-next block-no-bytes block-first-of-two : Name
   run-of-two run-first-alone run-second-first run-byte-behind run-empty run-byte-after-more : Name
   cut-by-two cut-by-one cut-empty : Name
+
+-- the sources of sixteen steps with the house table, and the parities of the library's own order and of another
+abbrev pub steppedSources : List ℕ
+steppedSources = 1 ∷ 1 ∷ 2 ∷ 1 ∷ 2 ∷ 1 ∷ 2 ∷ 1 ∷ 2 ∷ 1 ∷ 2 ∷ 1 ∷ 2 ∷ 1 ∷ 2 ∷ 2 ∷ []
+
+abbrev pub ownParities : List ℕ
+ownParities = 1 ∷ 2 ∷ 1 ∷ 2 ∷ 1 ∷ 2 ∷ 1 ∷ 2 ∷ 1 ∷ 2 ∷ 1 ∷ 2 ∷ 1 ∷ 2 ∷ 1 ∷ 1 ∷ []
+
+abbrev pub otherParities : List ℕ
+otherParities = 2 ∷ 2 ∷ 1 ∷ 2 ∷ 1 ∷ 2 ∷ 1 ∷ 2 ∷ 1 ∷ 2 ∷ 1 ∷ 2 ∷ 1 ∷ 2 ∷ 2 ∷ 2 ∷ []
 
 -- five bytes, nine, and twelve
 abbrev pub five : List ℕ
@@ -142,6 +157,20 @@ example walk-no-parity = walk 2 2 1 house 3 0 1 (0 ∷ 0 ∷ 0 ∷ 0 ∷ 0 ∷ 0
 example walk-seven = walk 2 2 1 seven 12 7 0 (7 ∷ 0 ∷ 0 ∷ 0 ∷ 0 ∷ 0 ∷ 0 ∷ 0 ∷ [])
 example walk-eight = walk 2 2 1 eight 12 16 1 (8 ∷ 8 ∷ 0 ∷ 0 ∷ 0 ∷ 0 ∷ 0 ∷ 0 ∷ [])
 example walk-stuck = walk 3 3 1 stuck 56 0 0 (0 ∷ 0 ∷ 0 ∷ 0 ∷ 0 ∷ 0 ∷ 0 ∷ 0 ∷ [])
+example steps-own-order = check-steps 2 2 1 house 12 ownParities steppedSources 0 0
+example steps-another-order = check-steps 2 2 1 house 12 otherParities steppedSources 0 0
+-- after one bit of source 1 the next bits of both sources stand at the same place of parity 1
+example steps-tie = check-steps 2 2 1 house 12 (1 ∷ 1 ∷ []) (1 ∷ 2 ∷ []) 23 2
+-- as many steps as are right, all with parity 1
+example steps-right-length = check-steps 2 2 1 house 12 (replicate 16 1) steppedSources 23 2
+example steps-one-short = check-steps 2 2 1 house 12 (take 15 ownParities) (take 15 steppedSources) 24 15
+example steps-one-more = check-steps 2 2 1 house 12 (ownParities ++ 1 ∷ []) (steppedSources ++ 2 ∷ []) 23 17
+-- all the steps that there are before the stall
+example steps-seven = check-steps 2 2 1 seven 12 (replicate 7 1) (replicate 7 1) 24 7
+example steps-none-missing = check-steps 2 2 1 house 3 [] [] 0 0
+example steps-none-written = check-steps 2 2 1 house 12 [] [] 24 0
+example steps-nought = check-steps 2 2 1 house 12 (0 ∷ []) (1 ∷ []) 23 1
+example steps-unequal = check-steps 2 2 1 house 12 (0 ∷ []) [] 22 0
 example rebuild-both-parities = rebuild 2 2 1 house 12 (0x03 ∷ 0x00 ∷ 0x05 ∷ 0x00 ∷ []) (9 ∷ 9 ∷ []) 0 16 (0x01 ∷ 0x01 ∷ [])
 example rebuild-one-parity = rebuild 2 2 1 house 9 (0x01 ∷ 0x05 ∷ 0x00 ∷ []) (9 ∷ 9 ∷ []) 0 8 (0x01 ∷ 0x01 ∷ [])
 example rebuild-no-parity = rebuild 2 2 1 house 3 (0x01 ∷ 0x01 ∷ []) (9 ∷ 9 ∷ []) 0 0 (0x01 ∷ 0x01 ∷ [])
@@ -197,6 +226,17 @@ examples =
     ∷ walk-seven
     ∷ walk-eight
     ∷ walk-stuck
+    ∷ steps-own-order
+    ∷ steps-another-order
+    ∷ steps-tie
+    ∷ steps-right-length
+    ∷ steps-one-short
+    ∷ steps-one-more
+    ∷ steps-seven
+    ∷ steps-none-missing
+    ∷ steps-none-written
+    ∷ steps-nought
+    ∷ steps-unequal
     ∷ rebuild-both-parities
     ∷ rebuild-one-parity
     ∷ rebuild-no-parity

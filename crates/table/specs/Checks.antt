@@ -20,7 +20,7 @@ Checked (c ∷ cs) n = (c .1 × (n ≡ c .0)) ⊎ ((c .1 → ⊥) × Checked cs 
 -- The list, in order of checking: first the class sheet's own number, then those of the code, with 36, which only the writer of blocks gives, before 4; then those of a block.
 -- A call makes the checks that it has the input for.
 abbrev pub theList : List ℕ
-theList = 18 ∷ 1 ∷ 19 ∷ 2 ∷ 3 ∷ 6 ∷ 7 ∷ 17 ∷ 36 ∷ 4 ∷ 5 ∷ 8 ∷ 9 ∷ 10 ∷ 11 ∷ 12 ∷ 13 ∷ 14 ∷ 15 ∷ 20 ∷ 21 ∷ 16 ∷ []
+theList = 18 ∷ 1 ∷ 19 ∷ 2 ∷ 3 ∷ 6 ∷ 7 ∷ 17 ∷ 36 ∷ 4 ∷ 5 ∷ 22 ∷ 23 ∷ 24 ∷ 8 ∷ 9 ∷ 10 ∷ 11 ∷ 12 ∷ 13 ∷ 14 ∷ 15 ∷ 20 ∷ 21 ∷ 16 ∷ []
 
 -- numbers that are part of a list, in its order; the same may stand more than once, one right after the other
 abbrev pub InOrder : List ℕ → List ℕ → Type 0

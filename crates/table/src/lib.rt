@@ -97,6 +97,15 @@ impl Number {
     // a run of blocks ends with M set, or goes on after a block without it
     pub const BLOCK_END: u64 = 21;
 
+    // the two lists of steps differ in length
+    pub const STEPS_UNEQUAL: u64 = 22;
+
+    // a step of the list is not bare when its turn comes
+    pub const STEP_NOT_BARE: u64 = 23;
+
+    // the list of steps ends before all missing sources are whole
+    pub const STEPS_EARLY: u64 = 24;
+
     // the size to cut a packet by is not 1 to 254
     pub const CUT: u64 = 36;
 }

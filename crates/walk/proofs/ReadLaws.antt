@@ -12,7 +12,7 @@ use Rattle.table.specs.Desk.{Desk}
 use Rattle.code.specs.Code.{Bits, sumOf, parity, Source, Encodes}
 use Rattle.code.proofs.CodeLaws.{sum-of-same}
 use Rattle.walk.specs.Walk.{Order, bump, Gone, Bare, Run, done, step, Whole}
-use Rattle.walk.specs.Read.{put, presentOf, Knows, read, learn, readBy}
+use Rattle.walk.specs.Read.{put, presentOf, Knows, read, learn, readBy, readAlong}
 use Rattle.bits.proofs.UpLaws.{up-at, up-same, up-high}
 use Rattle.walk.proofs.Runs.{snoc}
 
@@ -134,6 +134,12 @@ module _ (D : Desk) where
     unfolding readBy snoc
     readBy-snoc a b done B s = refl
     readBy-snoc a b (step d e q u) B s = readBy-snoc a b u B _
+
+    -- a run reads what its order alone does
+    pub read-along : {g h : ℕ → ℕ} {o : Order} (u : Run D g o h) (s : Bits) → readBy D r u s ≡ readAlong D r o g s
+    unfolding readBy readAlong
+    read-along done s = refl
+    read-along (step a b B u) s = read-along u _
 
     -- if the packets were encoded from sources, every order reads those sources' bits
     pub readBy-knows : {g h : ℕ → ℕ} {o : Order} (u : Run D g o h) (s x : Bits) → Encodes D r s x → Knows D x g s → Knows D x h (readBy D r u s)

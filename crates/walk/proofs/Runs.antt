@@ -44,6 +44,11 @@ module _ (D : Desk) where
       let i = same-end u s (f .2) s′ in
       (ap suc (i .0) ∙ sym (f .1), i .1)
 
+  -- an order that is run from one place leads to one place
+  pub run-once : {g h h′ : ℕ → ℕ} {o : Order} → Run D g o h → Run D g o h′ → h ≡ h′
+  run-once done done = refl
+  run-once (step a b r u) (step _ _ _ v) = run-once u v
+
   -- one more step at the end, as a loop makes it
   unfoldable pub snoc : {g h : ℕ → ℕ} {o : Order} (a b : ℕ) → Run D g o h → Bare D h a b → Run D g (o ++ (a, b) ∷ []) (bump h b)
   snoc a b done r = step a b r done

@@ -1,11 +1,12 @@
 -- The bits that a run reads.
 use mathlib.Core.Path.{_≡_}
 use mathlib.Core.Bool.{true, cond, _&&_}
+use mathlib.Core.List.{[], _∷_}
 use Prim.Native.Nat.{ℕ, _+_, _%_, _≤_, _<_}
 use lib.Dec.{eqb}
 use Rattle.table.specs.Desk.{Desk}
 use Rattle.code.specs.Code.{Bits, sumOf}
-use Rattle.walk.specs.Walk.{Order, Gone, Run, done, step}
+use Rattle.walk.specs.Walk.{Order, bump, Gone, Run, done, step}
 
 -- bit p of source b becomes v
 unfoldable pub put : Bits → ℕ → ℕ → ℕ → Bits
@@ -37,3 +38,8 @@ module _ (D : Desk) where
     unfoldable pub readBy : {g h : ℕ → ℕ} {o : Order} → Run D g o h → Bits → Bits
     readBy done s = s
     readBy {g} (step a b B u) s = readBy u (learn s g a b)
+
+    -- the same of an order alone, bare or not, from progress g on: for a list that is written down
+    unfoldable pub readAlong : Order → (ℕ → ℕ) → Bits → Bits
+    readAlong [] g s = s
+    readAlong ((a, b) ∷ o) g s = readAlong o (bump g b) (learn s g a b)

@@ -87,7 +87,12 @@ fn lower(
 }
 
 // The source that is bare in parity a, or k or more.
-fn source_of(s: Shape, shifts: &[u8; Table::CELLS], g: &[u64; Table::SOURCES], a: usize) -> usize
+pub fn source_of(
+    s: Shape,
+    shifts: &[u8; Table::CELLS],
+    g: &[u64; Table::SOURCES],
+    a: usize,
+) -> usize
     requires { ⌜ Within s (now shifts) ⌝ }
     requires { ⌜ Fits (deskOf s (now shifts)) (at (now g)) ⌝ }
     requires { ⌜ a < s .m ⌝ }
@@ -143,7 +148,7 @@ pub fn next_pair(s: Shape, shifts: &[u8; Table::CELLS], g: &[u64; Table::SOURCES
 }
 
 // One more bit of source b.
-fn raised(mut g: [u64; Table::SOURCES], b: usize) -> [u64; Table::SOURCES]
+pub fn raised(mut g: [u64; Table::SOURCES], b: usize) -> [u64; Table::SOURCES]
     requires { ⌜ b < maxK ⌝ }
     requires { ⌜ at g b ≤ maxBits ⌝ }
     ensures { λ r. ⌜ r ≡ set g b (at g b + 1) ⌝ }

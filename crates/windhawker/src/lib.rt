@@ -3,6 +3,7 @@ use table::Table;
 ghost use Rattle.family.specs.Promise.{FamilyWritten, Judged};
 ghost use Rattle.encode.specs.Promise.{EncodedAll, EncodedOne, PacketMeasured, ParitiesMeasured, SurvivorsMeasured};
 ghost use Rattle.walk.specs.Promise.{Walked, Stepped};
+ghost use Rattle.steps.specs.Promise.{StepsChecked};
 ghost use Rattle.rebuild.specs.Promise.{Rebuilt};
 ghost use Rattle.repair.specs.Promise.{Repaired};
 ghost use Rattle.look.specs.Promise.{LookedAt};
@@ -146,6 +147,25 @@ pub extern "C" fn whx_next_step(
     *source = s.source;
     *after = end;
     s.number
+}
+
+// Whether a list of steps finishes all missing sources, and where it goes wrong.
+#[no_mangle]
+pub extern "C" fn whx_check_steps(
+    k: u64,
+    m: u64,
+    l: u64,
+    table: &[u8],
+    marks: u64,
+    parities: &[u8],
+    sources: &[u8],
+    place: &mut u64,
+) -> u64
+    ensures { λ r. ⌜ StepsChecked k m l (now (table .entry)) marks (now (parities .entry)) (now (sources .entry)) r (now (place .exit)) ⌝ }
+{
+    let c = steps::check_steps(k, m, l, table, marks, parities, sources);
+    *place = c.place;
+    c.number
 }
 
 // One block from a card reader.
