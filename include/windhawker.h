@@ -32,7 +32,7 @@
  *   1 first. All parities, and packets at hand, stand one after another, lowest packet number
  *   first, with no gaps. Lengths are exact: one byte too many is refused like one too few.
  *   wh_packet_length, wh_parities_length and wh_survivors_length do the sums. Only where blocks are
- *   read or written may the destination be longer.
+ *   read or written may the destination be longer, and lists of steps may have any length.
  *
  * MARKS
  *   The packets at hand, told as one number: bit 0 is set when packet 1 is there, bit 1 for packet
@@ -48,16 +48,16 @@
  *
  * LISTS OF STEPS
  *   An order of steps as it is written down: for each step, first to last, the number of its
- *   parity, 1 to m, in one list of bytes, and that of its source, 1 to k, in another as long. The
- *   bit that a step uncovers is always the source's next one and is not written. wh_check_steps
- *   takes a list exactly when each pair is bare when its turn comes and all missing sources are
- *   finished at the end. If not, it tells where it goes wrong: the place, from 1, of the first step
- *   that is not bare, or the length of a list that only ends early. With the house table of
- *   k = m = 2, l = 1 and marks 9, where source 2 is missing and parity 2 at hand, one list is right:
- *   2 2 2 2 2 2 2 2 and 2 2 2 2 2 2 2 2. Where more is missing several may be right, all of the
- *   same length, and where the decoding stalls none is. With marks 12 the steps 1 1 and then 1 2
- *   (parity, source) are refused at place 2: once a bit of source 1 is uncovered, the next bits of
- *   both sources stand at the same place of parity 1.
+ *   parity, 1 to m and not a packet number, in one list of bytes, and that of its source, 1 to k,
+ *   in another as long. The bit that a step uncovers is always the source's next one and is not
+ *   written. wh_check_steps takes a list exactly when each pair is bare when its turn comes and all
+ *   missing sources are finished at the end. If not, it tells where it goes wrong: the place, from
+ *   1, of the first step that is not bare, or the length of a list that only ends early. With the
+ *   house table of k = m = 2, l = 1 and marks 5, where source 2 is missing and parity 1 at hand, one
+ *   list is right: parities 1 1 1 1 1 1 1 1, sources 2 2 2 2 2 2 2 2. Where more is missing several
+ *   may be right, all of the same length, and where the decoding stalls none is. With marks 12 the
+ *   steps 1 1 and then 1 2 (parity, source) are refused at place 2: once a bit of source 1 is
+ *   uncovered, the next bits of both sources stand at the same place of parity 1.
  *
  * BLOCKS, RUNS
  *   A card reader hands a packet over in blocks (I-blocks of ISO/IEC 7816-3, protocol T=1). The

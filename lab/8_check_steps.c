@@ -19,7 +19,11 @@ static const char usage[] =
 
 /* A step uncovers one bit. So no more steps can be right than all sources have bits, and in a
  * longer list the next one is wrong at the latest: what stands behind it need not be kept. */
-enum { STEPS_KEPT = WH_MAX_K * 8 * WH_MAX_LENGTH + 1, LINE_MOST = 80 };
+enum { STEPS_KEPT = WH_MAX_K * 8 * WH_MAX_LENGTH + 1 };
+
+/* The longest line, its comment not counted: a macro, so that sscanf has it too. */
+#define LINE_MOST 80
+#define WORD "%" WH_TEXT(LINE_MOST) "s"
 
 /* How the log was coded, and which cards are at hand. */
 typedef struct {
@@ -94,9 +98,11 @@ static void say_why(const cards *c, const list *steps, uint64_t count)
 {
     uint64_t a = steps->parities[count], b = steps->sources[count];
     if (a < 1 || a > c->m) {
-        printf("  there is no parity %" PRIu64 "\n", a);
+        printf("  there is no parity %" PRIu64 ": parities are 1 to %" PRIu64
+               ", which are not packet numbers\n",
+               a, c->m);
     } else if (b < 1 || b > c->k) {
-        printf("  there is no source %" PRIu64 "\n", b);
+        printf("  there is no source %" PRIu64 ": sources are 1 to %" PRIu64 "\n", b, c->k);
     } else if (!at_hand(c, c->k + a)) {
         printf("  parity %" PRIu64 " is not at hand\n", a);
     } else if (at_hand(c, b)) {
@@ -193,7 +199,7 @@ static void take_line(list *steps, uint64_t line, const char *text)
     if (strlen(text) > LINE_MOST) {
         refuse_line(line, "is too long for two numbers", text);
     }
-    int words = sscanf(text, "%80s %80s %80s", word[0], word[1], word[2]);
+    int words = sscanf(text, WORD WORD WORD, word[0], word[1], word[2]);
     if (words < 1) {
         return;
     }

@@ -115,7 +115,7 @@ static int null_is_no_bytes(void)
         {"one packet", wh_encode_one(2, 2, 1, table, 4, 3, two, 2, none, 2), WH_OUTPUT},
         {"walk's table", wh_walk(2, 2, 1, none, 4, 12).number, WH_TABLE},
         {"next step's table", wh_next_step(2, 2, 1, none, 4, 12, progress).number, WH_TABLE},
-        {"check steps' table", wh_check_steps(2, 2, 1, none, 4, 12, two, 2, two, 2).number,
+        {"check steps' table", wh_check_steps(2, 2, 1, none, 4, 12, two, 2, four, 2).number,
          WH_TABLE},
         {"the steps' parities", wh_check_steps(2, 2, 1, table, 4, 12, none, 2, two, 2).number,
          WH_STEPS_UNEQUAL},

@@ -30,9 +30,9 @@ static void two_to_the_32_and_4(void)
     expect_number(wh_judge(2, 2, table, more + 4).number, WH_TABLE);
     expect_number(wh_encode_all(2, 2, 1, table, 4, sources, more + 2, out, 4), WH_INPUT);
     expect_number(wh_encode_all(2, 2, 1, table, 4, sources, 2, out, more + 4), WH_OUTPUT);
-    expect_number(wh_check_steps(2, 2, 1, table, 4, 3, block, more, block, 0).number,
+    expect_number(wh_check_steps(2, 2, 1, table, 4, 3, block, more, sources, 0).number,
                   WH_STEPS_UNEQUAL);
-    expect_number(wh_check_steps(2, 2, 1, table, 4, 3, block, 0, block, more).number,
+    expect_number(wh_check_steps(2, 2, 1, table, 4, 3, block, 0, sources, more).number,
                   WH_STEPS_UNEQUAL);
     expect_number(wh_block(block, more + 4, out, 4).number, WH_BLOCK_LENGTH);
     expect_number(wh_read_blocks(block, more + 4, out, 4).number, WH_BLOCK_END);

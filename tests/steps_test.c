@@ -246,16 +246,16 @@ static void spoiled(void)
 
 static void slot_is_set_when_refused(void)
 {
-    const uint8_t table[4] = {0, 1, 0, 2}, ones[2] = {1, 1};
+    const uint8_t table[4] = {0, 1, 0, 2}, parities[2] = {1, 1}, sources[2] = {1, 1};
     uint64_t place = 77;
-    expect_number(whx_check_steps(2, 2, 1, table, 4, 7, ones, 2, ones, 2, &place), WH_MARKS);
+    expect_number(whx_check_steps(2, 2, 1, table, 4, 7, parities, 2, sources, 2, &place), WH_MARKS);
     expect_zeros(&place, 1);
     place = 77;
-    expect_number(whx_check_steps(2, 2, 1, table, 4, 12, ones, 2, ones, 1, &place),
+    expect_number(whx_check_steps(2, 2, 1, table, 4, 12, parities, 2, sources, 1, &place),
                   WH_STEPS_UNEQUAL);
     expect_zeros(&place, 1);
     place = 77;
-    expect_number(whx_check_steps(2, 2, 1, table, 4, 3, ones, 0, ones, 0, &place), WH_DONE);
+    expect_number(whx_check_steps(2, 2, 1, table, 4, 3, parities, 0, sources, 0, &place), WH_DONE);
     expect_zeros(&place, 1);
 }
 

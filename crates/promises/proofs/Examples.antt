@@ -26,7 +26,8 @@ use Rattle.survivors.specs.Packets.{cameParity}
 use Rattle.card.proofs.Examples.{two-bytes-taken, two-bytes-next-taken, no-bytes-taken, first-of-two-taken}
 use Rattle.chain.proofs.Examples.{run-read, packet-written, byte-by-byte-written, empty-written}
 use Rattle.chain.proofs.Examples.{first-alone-refused, second-first-refused, byte-behind-refused, empty-refused, byte-after-more-refused}
-use Rattle.promises.specs.Examples.{Example, family, largest, judge, packet-length, parities-length, encode, walk, check-steps, rebuild, block, read, write, Met, Name, example, examples, AllMet, ExamplesMet}
+use Rattle.promises.specs.Examples.{Example, family, largest, judge, packet-length, parities-length, encode, walk, check-steps, rebuild, block, read, write}
+use Rattle.promises.specs.Examples.{Met, Name, example, examples, AllMet, ExamplesMet}
 use Rattle.promises.proofs.RebuildAnswers.{bytesB, tidyB, Outcome, stalls, strays, differs, reads, outcome-meets}
 
 -- what is computed of an example; of blocks nothing here

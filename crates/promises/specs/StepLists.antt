@@ -1,8 +1,8 @@
 -- Lists of steps: what check steps accepts, beside the orders of steps, walk, next step and rebuild. proofs/StepLists proves each statement: `AcceptedExactly` is proved as `accepted-exactly`.
-use mathlib.Core.Path.{_≡_}
+use mathlib.Core.Path.{_≡_, refl}
 use mathlib.Core.Logic.{_↔_}
 use mathlib.Core.List.{List, [], _∷_}
-use Prim.Native.Nat.{ℕ, _+_, _<_}
+use Prim.Native.Nat.{ℕ, _<_}
 use lib.ListN.{length}
 use Rattle.table.specs.Limits.{noughts}
 use Rattle.table.specs.Desk.{Desk, desk, sourcesBytes}
@@ -73,7 +73,15 @@ GrowingOrderIsAccepted =
     → StepsChecked k m l table marks (parityNumbers o) (sourceNumbers o) number place
     → (number ≡ 0) × (place ≡ 0)
 
--- and the pairs of next step, called again and again until it says that none is left, where walk says that all is whole.
+-- walk's own, where walk says that all is whole;
+abbrev pub WalksOrderIsAccepted : Type 0
+WalksOrderIsAccepted =
+    (k m l : ℕ) (table : List ℕ) (marks count : ℕ) (progress : List ℕ) (number place : ℕ) (x : Walked k m l table marks 0 count 1 progress)
+    → let o = x .done refl .reached .order in
+    StepsChecked k m l table marks (parityNumbers o) (sourceNumbers o) number place
+    → (number ≡ 0) × (place ≡ 0)
+
+-- and there the pairs of next step, called again and again until it says that none is left.
 
 -- accepted calls of next step that lead from one progress to another, where it says that none is left: the parities and the sources that they give
 pub data Stepping (k m l : ℕ) (table : List ℕ) (marks : ℕ) : List ℕ → List ℕ → List ℕ → List ℕ → Type 0 where
@@ -92,13 +100,13 @@ NextStepsAreAccepted =
     → StepsChecked k m l table marks parities sources number place
     → (number ≡ 0) × (place ≡ 0)
 
--- An accepted list is as long as walk counts, and walk says that all is whole.
+-- Where a list is accepted, walk takes the shape and the marks too, counts as many steps and says that all is whole.
 abbrev pub AcceptedListHasTheCount : Type 0
 AcceptedListHasTheCount =
-    (k m l : ℕ) (table : List ℕ) (marks : ℕ) (parities sources : List ℕ) (place count whole : ℕ) (progress : List ℕ)
+    (k m l : ℕ) (table : List ℕ) (marks : ℕ) (parities sources : List ℕ) (place number count whole : ℕ) (progress : List ℕ)
     → StepsChecked k m l table marks parities sources 0 place
-    → Walked k m l table marks 0 count whole progress
-    → (length parities ≡ count) × (length sources ≡ count) × (whole ≡ 1)
+    → Walked k m l table marks number count whole progress
+    → (number ≡ 0) × (length parities ≡ count) × (length sources ≡ count) × (whole ≡ 1)
 
 -- ---- What is refused
 

@@ -3,7 +3,7 @@ use mathlib.Core.Path.{_≡_, refl, sym, ap, _∙_, subst}
 use mathlib.Core.Logic.{inl, inr}
 use mathlib.Core.Bool.{Bool, true, false, _&&_, true≢false, and-eq-true-iff}
 use mathlib.Core.List.{List, _++_}
-use Prim.Native.Nat.{ℕ, zero, suc, _+_, _-_, _≤_, _<_}
+use Prim.Native.Nat.{ℕ, zero, suc, _+_, _-_, _≤_}
 use native.Mathlib.Omega.{arith}
 use lib.Dec.{eqb, leb}
 use lib.ListN.{length, set, length-set}
@@ -11,15 +11,16 @@ use borrow.Author.Tests.{leb-true, le-leb, eqb-true, eqb-false, eq-eqb}
 use Rattle.bits.specs.Sums.{at, pick}
 use Rattle.table.specs.Limits.{maxK, noughts}
 use Rattle.table.specs.Desk.{Desk, desk}
-use Rattle.table.specs.Checks.{Checked, Answered, markedChecks}
+use Rattle.table.specs.Checks.{Checked, markedChecks}
 use Rattle.table.proofs.CheckLaws.{numbered-by}
 use Rattle.table.proofs.AnswerLaws.{answer-goes, answer-stops}
 use Rattle.table.proofs.ShapeLaws.{shaped, marked-parts}
 use Rattle.walk.specs.Compute.{sourceOf, wholeB}
 use Rattle.walk.proofs.Computed.{at-bump, whole-of, of-whole}
 use Rattle.steps.specs.Steps.{BareStep, Led}
-use Rattle.steps.specs.Promise.{listsChecks, followChecks, PlaceTold, StepsChecked}
-use Rattle.steps.proofs.StepLaws.{found-bare, bare-found, bare-names-parity, bare-names-source, Following, led-fits, following-none, following-more, told-nowhere, answer-bad, answer-whole, answer-early}
+use Rattle.steps.specs.Promise.{unequalChecks, followChecks, Followed, StepsChecked}
+use Rattle.steps.proofs.StepLaws.{found-bare, bare-found, bare-names-parity, bare-names-source, led-fits}
+use Rattle.steps.proofs.StepLaws.{Following, following-none, following-more, told-nowhere, follow-bad, follow-whole, follow-early}
 
 module _ (D : Desk) (g : ℕ → ℕ) (parity source : ℕ) where
   open Desk D using (k, m)
@@ -58,7 +59,7 @@ module _ (D : Desk) (parities sources : List ℕ) where
   checkedOf = pick (eqb (length parities) (length sources)) (followFrom (length parities) 0 noughts) (22, 0)
 
   abbrev Answer : ℕ × ℕ → Type 0
-  Answer r = Answered (followChecks D parities sources) (r .0) (PlaceTold D parities sources (r .0) (r .1)) (r .1 ≡ 0)
+  Answer r = Followed D parities sources (r .0) (r .1)
 
   module _ (few : D .k ≤ maxK) (as-long : length parities ≡ length sources) where
     ended : (i : ℕ) (g : List ℕ) → i ≡ length parities → Following D parities sources i g → (v : Bool) → wholeB D (at g) ≡ v → Answer (pick v (0, 0) (24, i))
@@ -68,8 +69,8 @@ module _ (D : Desk) (parities sources : List ℕ) where
         L = subst (λ (n : ℕ). Led D parities sources n (at g)) e (F .led)
 
         go : (v : Bool) → wholeB D (at g) ≡ v → Answer (pick v (0, 0) (24, i))
-        go true w = answer-whole D parities sources L 0 0 refl refl (whole-of D (at g) (led-fits D parities sources L) w)
-        go false w = answer-early D parities sources L 24 i refl e (λ x. true≢false (sym (of-whole D (at g) x) ∙ w))
+        go true w = follow-whole D parities sources L as-long 0 0 refl refl (whole-of D (at g) (led-fits D parities sources L) w)
+        go false w = follow-early D parities sources L 24 i refl e (λ x. true≢false (sym (of-whole D (at g) x) ∙ w))
 
     follows : (left i : ℕ) (g : List ℕ) → left + i ≡ length parities → Following D parities sources i g → Answer (followFrom left i g)
     unfolding followFrom
@@ -81,7 +82,7 @@ module _ (D : Desk) (parities sources : List ℕ) where
             → ((j : ℕ) (h : List ℕ) → left + j ≡ length parities → Following D parities sources j h → Answer (followFrom left j h))
             → Answer (followFrom (suc left) i g)
         go false w ih =
-            rw (w, followFrom) (answer-bad D parities sources i 23 (i + 1) refl refl (omega arith) (F .led) (λ B. true≢false (sym (bare-told D (at g) (at parities i) (at sources i) B) ∙ w)))
+            rw (w, followFrom) (follow-bad D parities sources i 23 (i + 1) refl refl (omega arith) (F .led) (λ B. true≢false (sym (bare-told D (at g) (at parities i) (at sources i) B) ∙ w)))
         go true w ih =
             let B = told-bare D (at g) (at parities i) (at sources i) w in
             let b = at sources i - 1 in
@@ -108,13 +109,13 @@ checked-meets k m l table marks parities sources c = go (eqb (length parities) (
         StepsChecked k m l table marks parities sources (r .0) (r .1)
     go true e =
         let as-long = eqb-true (length parities) (length sources) e in
-        let lists = listsChecks parities sources in
+        let lists = unequalChecks parities sources in
         let cs = markedChecks k m l table marks in
         let steps = followChecks D parities sources in
         let follow = follows D parities sources few as-long (length parities) 0 noughts (omega arith) (following-none D parities sources) in
         answer-goes cs (lists ++ steps) _ (numbered-by cs refl) c (answer-goes lists steps _ (numbered-by lists refl) (inr ((λ n. n as-long), refl)) follow)
     go false e =
-        let lists = listsChecks parities sources in
+        let lists = unequalChecks parities sources in
         let cs = markedChecks k m l table marks in
         let steps = followChecks D parities sources in
         answer-goes cs (lists ++ steps) 22 (numbered-by cs refl) c

@@ -1,5 +1,5 @@
 -- Two answers that meet the promise of check steps at the same input are equal. Assumes nothing.
-use mathlib.Core.Path.{_≡_, sym, _∙_, subst}
+use mathlib.Core.Path.{_≡_, sym, subst}
 use mathlib.Core.List.{List}
 use Prim.Native.Nat.{ℕ}
 use native.Mathlib.Decide.{ℕ-discrete}
@@ -15,10 +15,10 @@ place-once : {D : Desk} {parities sources : List ℕ} {number place place′ : �
     → PlaceTold D parities sources number place′
     → place ≡ place′
 place-once {D} {parities} {sources} {number} {place} {place′} x y = elim (ℕ-discrete number 23) [
-  | yes e ↦ first-bad-once D parities sources place place′ (x .0 e) (y .0 e)
+  | yes e ↦ first-bad-once D parities sources place place′ (x .bad e) (y .bad e)
   | no bad ↦ elim (ℕ-discrete number 24) [
-    | yes e ↦ same (x .1 e) (y .1 e)
-    | no early ↦ same (x .2 bad early) (y .2 bad early)
+    | yes e ↦ same (x .early e) (y .early e)
+    | no early ↦ same (x .nowhere bad early) (y .nowhere bad early)
   ]
 ]
 
@@ -31,4 +31,4 @@ one-checked k m l table marks parities sources {n} {p} {n′} {p′} x y =
     let cs = stepListChecks k m l table marks parities sources in
     let e = checked-once cs n n′ (x .numbered) (y .numbered) in
     let z = subst (λ (i : ℕ). StepsChecked k m l table marks parities sources i p′) (sym e) y in
-    (e, answers-agree cs n n {P = p ≡ p′} place-once same x z .1)
+    (e, answers-agree cs n n {P = p ≡ p′} place-once (λ a b. same (a .1) (b .1)) x z .1)

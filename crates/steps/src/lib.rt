@@ -8,12 +8,11 @@ ghost use lib.ListN.{length};
 ghost use Rattle.bits.specs.Sums.{at};
 ghost use Rattle.bits.specs.Bits.{Tells};
 ghost use Rattle.table.specs.Table.{Within, deskOf};
-ghost use Rattle.table.specs.Checks.{Answered};
 ghost use Rattle.walk.specs.Walk.{Fits};
 ghost use Rattle.steps.specs.Steps.{BareStep};
-ghost use Rattle.steps.specs.Promise.{followChecks, PlaceTold, StepsChecked};
+ghost use Rattle.steps.specs.Promise.{Followed, StepsChecked};
 
-// What check steps gives: its number, and the place of the first bad step or of the early end, from 1.
+// What check steps gives: its number, and the place of a refusal: the first bad step, from 1, or the length of a list that ends early.
 pub struct StepsAnswer {
     pub number: u64,
     pub place: u64,
@@ -53,7 +52,7 @@ fn is_bare(
 fn follow(s: Shape, shifts: &[u8; Table::CELLS], parities: &[u8], sources: &[u8]) -> StepsAnswer
     requires { ⌜ Within s (now shifts) ⌝ }
     requires { ⌜ length (now parities) ≡ length (now sources) ⌝ }
-    ensures { λ r. ⌜ Answered (followChecks (deskOf s (now (shifts .entry))) (now (parities .entry)) (now (sources .entry))) (r .number) (PlaceTold (deskOf s (now (shifts .entry))) (now (parities .entry)) (now (sources .entry)) (r .number) (r .place)) (r .place ≡ 0) ⌝ }
+    ensures { λ r. ⌜ Followed (deskOf s (now (shifts .entry))) (now (parities .entry)) (now (sources .entry)) (r .number) (r .place) ⌝ }
 {
     let mut g = [0u64; Table::SOURCES];
     let mut i = 0;

@@ -10,7 +10,8 @@ use Rattle.table.specs.Checks.{markedChecks}
 use Rattle.table.proofs.CheckLaws.{numbered-by, below-by, checked-below}
 use Rattle.table.proofs.AnswerLaws.{answer-goes, answer-stops}
 use Rattle.checks.proofs.OpenLaws.{opened-stops, opened-passes, opened-goes}
-use Rattle.steps.specs.Promise.{listsChecks, followChecks, PlaceTold}
+use Rattle.steps.specs.Steps.{Complete}
+use Rattle.steps.specs.Promise.{unequalChecks, followChecks, PlaceTold}
 use Rattle.steps.proofs.StepLaws.{told-nowhere}
 use borrow.Author.Needs.{needs}
 use Rattle.steps.proofs.check_steps.Statement.{statement}
@@ -27,7 +28,7 @@ returns c =
     let D = desk (x .k) (x .m) (x .l) (x .table .now) (x .marks) in
     let O = o .open-marked in
     let low = checked-below 23 cs (O .result .number) (omega arith) (below-by 23 cs refl) (O .ensures .numbered) in
-    opened-stops (O .ensures) (listsChecks (x .parities .now) (x .sources .now) ++ followChecks D (x .parities .now) (x .sources .now)) (O .result .number) (c .if1 .taken) refl
+    opened-stops (O .ensures) (unequalChecks (x .parities .now) (x .sources .now) ++ followChecks D (x .parities .now) (x .sources .now)) (O .result .number) (c .if1 .taken) refl
     (told-nowhere D (x .parities .now) (x .sources .now) (O .result .number) 0 low refl)
 
 returns-2 : tie.Need-returns-2
@@ -36,7 +37,7 @@ returns-2 c =
     let x = o .before .before .before .before .args in
     let cs = markedChecks (x .k) (x .m) (x .l) (x .table .now) (x .marks) in
     let D = desk (x .k) (x .m) (x .l) (x .table .now) (x .marks) in
-    let lists = listsChecks (x .parities .now) (x .sources .now) in
+    let lists = unequalChecks (x .parities .now) (x .sources .now) in
     let steps = followChecks D (x .parities .now) (x .sources .now) in
     answer-goes cs (lists ++ steps) _ (numbered-by cs refl) (opened-passes (o .open-marked .ensures) (c .before .if1 .left))
     (answer-stops lists steps 22 _ (inl ((λ e. omega (arith, e, c .if2 .taken)), refl)) (λ z. omega arith) (omega arith) (told-nowhere D (x .parities .now) (x .sources .now) _ 0 (omega arith) refl))
@@ -60,10 +61,10 @@ returns-3 c =
     let O = o .open-marked in
     let r = c .follow .result in
     let E = deskOf (O .result .shape) (O .result .table .shifts) in
-    let lists = listsChecks ps ss in
+    let lists = unequalChecks ps ss in
     let checked = answer-goes lists (followChecks E ps ss) (r .number) (numbered-by lists refl) (inr ((λ n. n (as-long e)), refl)) (c .follow .ensures) in
     opened-goes (O .ensures) (e .before .if1 .left) (numbered-by (markedChecks (x .k) (x .m) (x .l) (x .table .now) (x .marks)) refl) (λ _ (D : Desk). lists ++ followChecks D ps ss)
-    (λ (D : Desk). PlaceTold D ps ss (r .number) (r .place)) (λ (D : Desk). r .place ≡ 0) (r .number) checked
+    (λ (D : Desk). PlaceTold D ps ss (r .number) (r .place)) (λ (D : Desk). Complete D ps ss × (r .place ≡ 0)) (r .number) checked
 
 pub check-steps-spec : {M : Type 1} → statement M
 check-steps-spec = tie.close (tie.spec open-marked-requires returns returns-2 follow-requires returns-3)

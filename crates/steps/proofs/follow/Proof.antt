@@ -6,16 +6,14 @@ use Prim.Native.Nat.{ℕ, _+_, _-_, _≤_, _<_}
 use lib.ListN.{length, length-set}
 use native.Mathlib.Omega.{arith}
 use borrow.Author.Needs.{needs}
-use Rattle.bits.specs.Sums.{at, oneAt}
+use Rattle.bits.specs.Sums.{at}
 use Rattle.table.specs.Limits.{maxK, maxBits}
-use Rattle.table.specs.Desk.{Desk}
 use Rattle.table.specs.Table.{deskOf}
 use Rattle.table.proofs.PacketLaws.{source-bits-high}
-use Rattle.walk.specs.Walk.{Whole}
 use Rattle.walk.specs.Compute.{fullB, wholeB}
 use Rattle.walk.proofs.Computed.{at-bump, whole-of, of-whole}
 use Rattle.steps.specs.Steps.{BareStep, Led}
-use Rattle.steps.proofs.StepLaws.{Following, led-fits, following-none, following-more, following-room, answer-bad, answer-whole, answer-early}
+use Rattle.steps.proofs.StepLaws.{Following, led-fits, following-none, following-more, following-room, follow-bad, follow-whole, follow-early}
 use Rattle.steps.proofs.follow.Statement.{statement}
 use Rattle.steps.proofs.follow.Tie as tie
 
@@ -58,7 +56,8 @@ room c =
     let l = c .before .before .before .before .before .before in
     let s = l .before .before .before in
     let w = s .pre .0 in
-    following-room (deskOf (s .args .s) (s .args .shifts .now)) (s .args .parities .now) (s .args .sources .now) (l .loop .inv .1) (w .k-high) (source-bits-high (s .args .s .length) (w .l-high)) (bare c)
+    following-room (deskOf (s .args .s) (s .args .shifts .now)) (s .args .parities .now) (s .args .sources .now) (l .loop .inv .1)
+    (w .k-high) (source-bits-high (s .args .s .length) (w .l-high)) (bare c)
 
 raised-requires : tie.Need-raised-requires Inv-loop μ-loop
 raised-requires c κs = room c
@@ -90,7 +89,7 @@ returns : tie.Need-returns Inv-loop μ-loop
 returns c =
     let l = c .before .before .before .before .before .before in
     let s = l .before .before .before in
-    answer-bad (deskOf (s .args .s) (s .args .shifts .now)) (s .args .parities .now) (s .args .sources .now) (l .loop .i) _ _ (omega arith) (omega arith) (search needs) (l .loop .inv .1 .led)
+    follow-bad (deskOf (s .args .s) (s .args .shifts .now)) (s .args .parities .now) (s .args .sources .now) (l .loop .i) _ _ (omega arith) (omega arith) (search needs) (l .loop .inv .1 .led)
     (c .before .is-bare .ensures .not-so (c .if1 .left))
 
 is-whole-requires : tie.Need-is-whole-requires Inv-loop μ-loop
@@ -113,7 +112,7 @@ returns-2 c =
     let D = deskOf (x .s) (x .shifts .now) in
     let L = to-end (c .before) in
     let whole = whole-of D (at (l .loop .g)) (led-fits D (x .parities .now) (x .sources .now) L) (sym (c .before .is-whole .ensures) ∙ c .if2 .taken) in
-    answer-whole D (x .parities .now) (x .sources .now) L 0 0 refl refl whole
+    follow-whole D (x .parities .now) (x .sources .now) L (l .before .before .before .pre .1) 0 0 refl refl whole
 
 returns-3 : tie.Need-returns-3 Inv-loop μ-loop
 unfolding wholeB fullB
@@ -122,7 +121,7 @@ returns-3 c =
     let x = l .before .before .before .args in
     let D = deskOf (x .s) (x .shifts .now) in
     let told = sym (c .before .is-whole .ensures) ∙ c .if2 .left in
-    answer-early D (x .parities .now) (x .sources .now) (to-end (c .before)) _ (l .loop .i) (omega arith) (omega arith) (λ w. true≢false (sym (of-whole D (at (l .loop .g)) w) ∙ told))
+    follow-early D (x .parities .now) (x .sources .now) (to-end (c .before)) _ (l .loop .i) (omega arith) (omega arith) (λ w. true≢false (sym (of-whole D (at (l .loop .g)) w) ∙ told))
 
 pub follow-spec : {M : Type 1} → statement M
 follow-spec =

@@ -3,10 +3,11 @@ use mathlib.Core.Path.{sym, _∙_}
 use Prim.Native.Nat.{_-_, _≤_}
 use native.Mathlib.Omega.{arith}
 use borrow.Author.Needs.{needs}
+use borrow.Author.Tests.{eqb-true, eqb-false}
 use Rattle.bits.specs.Sums.{at}
 use Rattle.bits.proofs.BitLaws.{tells-not}
 use Rattle.table.specs.Table.{deskOf}
-use Rattle.steps.proofs.StepLaws.{tells-equal, found-bare, bare-found, bare-names-parity, bare-names-source}
+use Rattle.steps.proofs.StepLaws.{found-bare, bare-found, bare-names-parity, bare-names-source}
 use Rattle.steps.proofs.is_bare.Statement.{statement}
 use Rattle.steps.proofs.is_bare.Tie as tie
 
@@ -38,8 +39,10 @@ returns c =
     let x = c .before .before .before .before .before .args in
     let D = deskOf (x .s) (x .shifts .now) in
     let g = at (x .g .now) in
-    tells-equal (f .result) (x .source - 1) (λ e. found-bare D g (x .parity) (x .source) (a-parity (c .before)) (a-source (c .before)) (sym (f .ensures) ∙ e))
-    (λ B. f .ensures ∙ bare-found D g (x .parity) (x .source) B)
+    record {
+      so = λ e. found-bare D g (x .parity) (x .source) (a-parity (c .before)) (a-source (c .before)) (sym (f .ensures) ∙ eqb-true (f .result) (x .source - 1) e);
+      not-so = λ e B. eqb-false (f .result) (x .source - 1) e (f .ensures ∙ bare-found D g (x .parity) (x .source) B);
+    }
 
 returns-2 : tie.Need-returns-2
 returns-2 c =
