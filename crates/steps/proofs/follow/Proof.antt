@@ -121,7 +121,7 @@ returns-3 c =
     let x = l .before .before .before .args in
     let D = deskOf (x .s) (x .shifts .now) in
     let told = sym (c .before .is-whole .ensures) ∙ c .if2 .left in
-    follow-early D (x .parities .now) (x .sources .now) (to-end (c .before)) _ (l .loop .i) (omega arith) (omega arith) (λ w. true≢false (sym (of-whole D (at (l .loop .g)) w) ∙ told))
+    follow-early D (x .parities .now) (x .sources .now) (to-end (c .before)) _ _ (omega arith) (omega arith) (λ w. true≢false (sym (of-whole D (at (l .loop .g)) w) ∙ told))
 
 pub follow-spec : {M : Type 1} → statement M
 follow-spec =
