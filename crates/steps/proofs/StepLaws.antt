@@ -41,7 +41,7 @@ numbers-tell (p ∷ o) (q ∷ o′) e f =
 -- ---- the search of a parity tells whether two entries are bare
 
 module _ (D : Desk) (g : ℕ → ℕ) (parity source : ℕ) where
-  open Desk D using (k, m)
+  open Desk D using (k, m, bits)
 
   pub found-bare : (1 ≤ parity) × (parity ≤ m) → (1 ≤ source) × (source ≤ k) → sourceOf D g (parity - 1) ≡ source - 1 → BareStep D g parity source
   found-bare p s e = record {
@@ -57,7 +57,13 @@ module _ (D : Desk) (g : ℕ → ℕ) (parity source : ℕ) where
       let e : parity - 1 ≡ B .a = omega (arith, B .parity-is) in
       rw e (omega (arith, bare-source D g (B .a) (B .b) (B .bare), B .source-is))
 
-  -- so the entries are numbers of something
+  -- so its source is one of those that have progress, and has a bit left
+  pub bare-room : k ≤ maxK → bits ≤ maxBits → BareStep D g parity source → (source - 1 < maxK) × (g (source - 1) ≤ maxBits)
+  bare-room kl bl B =
+      let e : source - 1 ≡ B .b = omega (arith, B .source-is) in
+      (omega (arith, e, B .bare .free), omega (arith, ap g e, B .bare .free))
+
+  -- and the entries are numbers of something
   pub bare-names-parity : BareStep D g parity source → (1 ≤ parity) × (parity ≤ m)
   bare-names-parity B = (omega (arith, B .parity-is), omega (arith, B .parity-is, B .bare .held .0))
 
@@ -177,13 +183,6 @@ module _ (D : Desk) (parities sources : List ℕ) where
       let e : at sources n - 1 ≡ B .b = omega (arith, B .source-is) in
       let here : at after ≡ bump (at g) (B .b) = fun-ext (λ c. each c ∙ ap (λ (b : ℕ). at g c + oneAt b c) e) in
       record { led = subst (Led D parities sources (n + 1)) (sym here) (led-more D parities sources (F .led) lp ls B); size = long }
-
-  -- where its source may be raised
-  pub following-room : {n : ℕ} {g : List ℕ} → Following n g → D .k ≤ maxK → D .bits ≤ maxBits → BareStep D (at g) (at parities n) (at sources n)
-      → (at sources n - 1 < maxK) × (at g (at sources n - 1) ≤ maxBits)
-  following-room {n} {g} F kl bl B =
-      let e : at sources n - 1 ≡ B .b = omega (arith, B .source-is) in
-      (omega (arith, e, B .bare .free), omega (arith, ap (at g) e, B .bare .free))
 
   -- with a number before 23 there is no place
   pub told-nowhere : (number place : ℕ) → number < 23 → place ≡ 0 → PlaceTold D parities sources number place

@@ -13,7 +13,7 @@ use Rattle.table.proofs.PacketLaws.{source-bits-high}
 use Rattle.walk.specs.Compute.{fullB, wholeB}
 use Rattle.walk.proofs.Computed.{at-bump, whole-of, of-whole}
 use Rattle.steps.specs.Steps.{BareStep, Led}
-use Rattle.steps.proofs.StepLaws.{Following, led-fits, following-none, following-more, following-room, follow-bad, follow-whole, follow-early}
+use Rattle.steps.proofs.StepLaws.{Following, led-fits, following-none, following-more, bare-room, follow-bad, follow-whole, follow-early}
 use Rattle.steps.proofs.follow.Statement.{statement}
 use Rattle.steps.proofs.follow.Tie as tie
 
@@ -55,9 +55,10 @@ room : (c : tie.Then1 Inv-loop μ-loop) → let l = c .before .before .before .b
 room c =
     let l = c .before .before .before .before .before .before in
     let s = l .before .before .before in
+    let x = s .args in
     let w = s .pre .0 in
-    following-room (deskOf (s .args .s) (s .args .shifts .now)) (s .args .parities .now) (s .args .sources .now) (l .loop .inv .1)
-    (w .k-high) (source-bits-high (s .args .s .length) (w .l-high)) (bare c)
+    let i = l .loop .i in
+    bare-room (deskOf (x .s) (x .shifts .now)) (at (l .loop .g)) (at (x .parities .now) i) (at (x .sources .now) i) (w .k-high) (source-bits-high (x .s .length) (w .l-high)) (bare c)
 
 raised-requires : tie.Need-raised-requires Inv-loop μ-loop
 raised-requires c κs = room c
