@@ -40,24 +40,26 @@
  *
  * STEPS, PROGRESS
  *   Decoding uncovers one bit at a time. progress[b - 1] says how many bits of source b are
- *   uncovered; it stays 0 for a source that is at hand and for numbers above k. A parity a at hand
- *   and a missing, unfinished source b are a bare pair when entry (a, b) + progress of b is less
- *   than entry (a, c) + progress of c for every other missing, unfinished source c. A step takes a
- *   bare pair and uncovers one more bit of b. When nothing is bare and something is missing, the
+ *   uncovered; it stays 0 for a source that is at hand and for numbers above k. A missing source is
+ *   finished when its progress is 8 * l, and unfinished until then. A parity a at hand and a
+ *   missing, unfinished source b are a bare pair when entry (a, b) + progress of b is less than
+ *   entry (a, c) + progress of c for every other missing, unfinished source c. A step takes a bare
+ *   pair and uncovers one more bit of b. When nothing is bare and something is missing, the
  *   decoding has stalled.
  *
  * LISTS OF STEPS
  *   An order of steps as it is written down: for each step, first to last, the number of its
  *   parity, 1 to m and not a packet number, in one list of bytes, and that of its source, 1 to k,
- *   in another as long. The bit that a step uncovers is always the source's next one and is not
- *   written. wh_check_steps takes a list exactly when each pair is bare when its turn comes and all
- *   missing sources are finished at the end. If not, it tells where it goes wrong: the place, from
- *   1, of the first step that is not bare, or the length of a list that only ends early. With the
- *   house table of k = m = 2, l = 1 and marks 5, where source 2 is missing and parity 1 at hand, one
- *   list is right: parities 1 1 1 1 1 1 1 1, sources 2 2 2 2 2 2 2 2. Where more is missing several
- *   may be right, all of the same length, and where the decoding stalls none is. With marks 12 the
- *   steps 1 1 and then 1 2 (parity, source) are refused at place 2: once a bit of source 1 is
- *   uncovered, the next bits of both sources stand at the same place of parity 1.
+ *   in another, equally long. The bit that a step uncovers is always the source's next one and is
+ *   not written. Where nothing else is wrong, wh_check_steps gives WH_DONE exactly when each pair
+ *   is bare when its turn comes and all missing sources are finished at the end. If not, it tells
+ *   where the list goes wrong: the place, from 1, of the first step that is not bare, or the length
+ *   of a list that only ends early. With the house table of k = m = 2, l = 1 and marks 5, where
+ *   source 2 is missing and parity 1 at hand, one list is right: parities 1 1 1 1 1 1 1 1, sources
+ *   2 2 2 2 2 2 2 2. Where more is missing several may be right, all of 8 * l steps for each
+ *   missing source, and where the decoding stalls none is. With marks 12, parities 1 1 and sources
+ *   1 2 are refused at place 2: once a bit of source 1 is uncovered, the next bits of both sources
+ *   stand at the same place of parity 1.
  *
  * BLOCKS, RUNS
  *   A card reader hands a packet over in blocks (I-blocks of ISO/IEC 7816-3, protocol T=1). The
@@ -95,7 +97,7 @@
  *                            wh_parities_length
  *     22  WH_STEPS_UNEQUAL   the two lists of steps differ in length
  *     23  WH_STEP_NOT_BARE   a step of the list is not bare when its turn comes; nor is one whose
- *                            entries are no parity or no source at all
+ *                            numbers are those of no parity or no source
  *     24  WH_STEPS_EARLY     the list ends before all missing sources are finished
  *      8  WH_STALL           stalled: no order of steps finishes all missing sources
  *      9  WH_STRAY           a parity at hand has a one above its last bit, 8 * l + r_a - 1
@@ -134,9 +136,9 @@
  *   WH_TABLE, WH_INPUT, WH_OUTPUT, WH_BLOCK_SHORT, for a destination WH_ROOM, for a list of steps
  *   WH_STEPS_UNEQUAL or WH_STEPS_EARLY. Length 0 is right in three places only: the destination of
  *   a block or a run that has no information, the packet that wh_write_blocks cuts, and both lists
- *   of steps where no source is missing. So a packet that is NULL is an empty one, and not refused:
- *   look at a pointer that may be NULL before you lend it. Progress is not NULL: it is always an
- *   array of WH_MAX_K numbers.
+ *   of steps where no source is missing. So a packet that is NULL is an empty one, and not refused,
+ *   nor are two such lists there: look at a pointer that may be NULL before you lend it. Progress
+ *   is not NULL: it is always an array of WH_MAX_K numbers.
  *
  * WARNINGS
  *   With -Wall, gcc and clang warn where a call's number or struct is not looked at at all, and
@@ -443,12 +445,12 @@ uint64_t whx_check_steps(uint64_t k, uint64_t m, uint64_t l, const uint8_t *tabl
                          uint64_t parities_len, const uint8_t *sources, uint64_t sources_len,
                          uint64_t *place);
 
-/* Checks a list of steps from progress 0: one byte of parities and one of sources for each step,
- * as above. Done, the list is an order of steps that finishes all missing sources, whoever wrote it
- * and in whichever order. With WH_STEP_NOT_BARE the place is that of the first step that is not
- * bare, from 1; with WH_STEPS_EARLY it is the length of the list; else it is 0. Lists of any length
- * may be lent; wh_walk counts the steps of a right one. WH_PACKET is about the marks only, and
- * WH_STALL does not occur: where the decoding stalls, no list is right.
+/* Checks a list of steps from progress 0: for each step a byte of parities, 1 to m, and a byte of
+ * sources, 1 to k. Done, the list is an order of steps that finishes all missing sources, whoever
+ * wrote it and in whichever order. With WH_STEP_NOT_BARE the place is that of the first step that
+ * is not bare, from 1; with WH_STEPS_EARLY it is the length of the list; else it is 0. Lists of any
+ * length may be lent; where wh_walk says whole it counts the steps of a right one. WH_PACKET is
+ * about the marks only, and WH_STALL does not occur: where the decoding stalls, no list is right.
  * Checks 1 2 3 6 7 22 23 24. */
 WH_LOOK_AT_IT WH_READS(4, 5) WH_READS(7, 8) WH_READS(9, 10)
 static inline wh_checked wh_check_steps(uint64_t k, uint64_t m, uint64_t l, const uint8_t *table,

@@ -3,7 +3,7 @@
  *   4_steps            with the house table, shifts 0 1 and 0 2
  *   4_steps 0 7 0 7    with these shifts: parity 1's two, then parity 2's
  *   4_steps list       the steps alone, one `parity source` to a line, as lesson 8 reads them;
- *                      shifts may follow
+ *                      shifts may follow, but lesson 8 knows the tables of the families only
  *
  * MARKS says which two cards are at hand. With 12 these are the two parities, and both sources are
  * lost. wh_next_step says which pair is bare; the program reads that bit in the parity and draws

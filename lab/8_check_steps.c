@@ -5,9 +5,11 @@
  *   8_check_steps K M L MARKS FILE FAMILY    with the table of this family, as in lesson 1
  *
  * A file has one step to a line, `parity source`: this parity uncovers the next bit of this source.
- * Where two pairs are bare either may be taken, so there are many right lists. wh_check_steps takes
+ * Where two pairs are bare either may be taken, so several lists may be right. wh_check_steps takes
  * every list in which each pair is bare when its turn comes and all missing sources are finished at
- * the end. Of any other it tells the first step that is wrong, or that the list ends early. */
+ * the end. Of any other it tells the first step that is wrong, or that the list ends early.
+ *
+ * The status is 0 for a right list, 1 for a wrong one, 2 where no list was looked at. */
 #include "show.h"
 
 #include <ctype.h>
@@ -18,7 +20,7 @@ static const char usage[] =
     "which is a name, or - for standard input\n";
 
 /* A step uncovers one bit. So no more steps can be right than all sources have bits, and in a
- * longer list the next one is wrong at the latest: what stands behind it need not be kept. */
+ * longer list the next one is wrong at the latest: what stands behind it need not be read. */
 enum { STEPS_KEPT = WH_MAX_K * 8 * WH_MAX_LENGTH + 1 };
 
 /* The longest line, its comment not counted: a macro, so that sscanf has it too. */
@@ -41,17 +43,20 @@ typedef struct {
 static void make_table(cards *c, uint64_t family)
 {
     c->table_len = c->k <= WH_MAX_K && c->m <= WH_MAX_M ? (size_t)(c->k * c->m) : 0;
-    must(wh_family_table(c->k, c->m, family, c->table, c->table_len), "wh_family_table");
+    uint64_t number = wh_family_table(c->k, c->m, family, c->table, c->table_len);
+    if (number != WH_DONE) {
+        fprintf(stderr, "8_check_steps: no table, %" PRIu64 ": %s\n", number, wh_meaning(number));
+        exit(2);
+    }
 }
 
+/* There is room for it. */
 static void add_step(list *steps, uint64_t parity, uint64_t source, uint64_t line)
 {
-    if (steps->length < STEPS_KEPT) {
-        steps->parities[steps->length] = (uint8_t)parity;
-        steps->sources[steps->length] = (uint8_t)source;
-        steps->lines[steps->length] = line;
-        steps->length++;
-    }
+    steps->parities[steps->length] = (uint8_t)parity;
+    steps->sources[steps->length] = (uint8_t)source;
+    steps->lines[steps->length] = line;
+    steps->length++;
 }
 
 /* ---- Why a list is refused: the library decides, this only shows it ---- */
@@ -77,20 +82,23 @@ static int unfinished(const cards *c, const list *steps, uint64_t count, uint64_
     return !at_hand(c, b) && uncovered(steps, count, b) < 8 * c->l;
 }
 
-/* Where the next bits of all unfinished sources then stand in parity a. */
+/* The row of parity a, and where in it the next bits of all unfinished sources then stand. */
 static void say_next_bits(const cards *c, const list *steps, uint64_t count, uint64_t a)
 {
+    const uint8_t *shifts = c->table + (a - 1) * c->k;
     const char *before = ":";
-    printf("  next bits in parity %" PRIu64, a);
+    printf("  next bits in parity %" PRIu64 ", shifts", a);
+    for (uint64_t b = 1; b <= c->k; b++) {
+        printf(" %d", shifts[b - 1]);
+    }
     for (uint64_t b = 1; b <= c->k; b++) {
         if (unfinished(c, steps, count, b)) {
-            uint64_t shift = c->table[(a - 1) * c->k + b - 1];
             printf("%s source %" PRIu64 " at place %" PRIu64, before, b,
-                   shift + uncovered(steps, count, b));
+                   shifts[b - 1] + uncovered(steps, count, b));
             before = ",";
         }
     }
-    printf("; only one below all others is bare\n");
+    printf("; source %d is not below all others\n", steps->sources[count]);
 }
 
 /* Why the step behind the first ones is not bare. */
@@ -99,12 +107,12 @@ static void say_why(const cards *c, const list *steps, uint64_t count)
     uint64_t a = steps->parities[count], b = steps->sources[count];
     if (a < 1 || a > c->m) {
         printf("  there is no parity %" PRIu64 ": parities are 1 to %" PRIu64
-               ", which are not packet numbers\n",
-               a, c->m);
+               ", and parity 1 is packet %" PRIu64 "\n",
+               a, c->m, c->k + 1);
     } else if (b < 1 || b > c->k) {
         printf("  there is no source %" PRIu64 ": sources are 1 to %" PRIu64 "\n", b, c->k);
     } else if (!at_hand(c, c->k + a)) {
-        printf("  parity %" PRIu64 " is not at hand\n", a);
+        printf("  parity %" PRIu64 ", packet %" PRIu64 ", is not at hand\n", a, c->k + a);
     } else if (at_hand(c, b)) {
         printf("  source %" PRIu64 " is at hand, nothing of it is covered\n", b);
     } else if (!unfinished(c, steps, count, b)) {
@@ -144,7 +152,9 @@ static uint64_t check(const cards *c, const list *steps)
                        steps->length, steps->sources, steps->length);
     uint64_t number = checked.number, place = checked.place;
     const char *meaning = wh_meaning(number);
-    if (number == WH_DONE) {
+    if (number == WH_DONE && steps->length == 0) {
+        printf("accepted: nothing is missing\n");
+    } else if (number == WH_DONE) {
         printf("accepted: %zu steps uncover all that is missing\n", steps->length);
     } else if (number == WH_STEP_NOT_BARE) {
         printf("refused, %" PRIu64 " at step %" PRIu64 ": %s\n", number, place, meaning);
@@ -164,13 +174,13 @@ static uint64_t check(const cards *c, const list *steps)
 static void fail(const char *what, const char *name)
 {
     fprintf(stderr, "8_check_steps: %s %s: %s\n", what, name, strerror(errno));
-    exit(1);
+    exit(2);
 }
 
 static void refuse_line(uint64_t line, const char *what, const char *text)
 {
     fprintf(stderr, "8_check_steps: line %" PRIu64 " %s: %s\n", line, what, text);
-    exit(1);
+    exit(2);
 }
 
 /* Reads the next line as far as a #, and says whether there was one. A blank of any kind, as the CR
@@ -217,7 +227,7 @@ static void read_list(const char *name, list *steps)
     if (file == NULL) {
         fail("cannot open", name);
     }
-    for (uint64_t line = 1; read_line(file, text); line++) {
+    for (uint64_t line = 1; steps->length < STEPS_KEPT && read_line(file, text); line++) {
         take_line(steps, line, text);
     }
     if (ferror(file)) {
@@ -334,5 +344,13 @@ int main(int words, char **word)
     }
     make_table(&c, family);
     read_list(word[5], &steps);
-    return check(&c, &steps) == WH_DONE ? 0 : 1;
+    switch (check(&c, &steps)) {
+    case WH_DONE:
+        return 0;
+    case WH_STEP_NOT_BARE:
+    case WH_STEPS_EARLY:
+        return 1;
+    default: /* no such cards */
+        return 2;
+    }
 }
