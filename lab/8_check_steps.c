@@ -66,6 +66,11 @@ static int at_hand(const cards *c, uint64_t packet)
     return c->marks >> (packet - 1) & 1;
 }
 
+static uint64_t source_bits(const cards *c)
+{
+    return 8 * c->l;
+}
+
 /* How many bits of source b the first steps uncover, as many as count says. */
 static uint64_t uncovered(const list *steps, uint64_t count, uint64_t b)
 {
@@ -79,7 +84,7 @@ static uint64_t uncovered(const list *steps, uint64_t count, uint64_t b)
 /* Whether source b is lost, and not all of it uncovered by the first steps. */
 static int unfinished(const cards *c, const list *steps, uint64_t count, uint64_t b)
 {
-    return !at_hand(c, b) && uncovered(steps, count, b) < 8 * c->l;
+    return !at_hand(c, b) && uncovered(steps, count, b) < source_bits(c);
 }
 
 /* The row of parity a, and where in it the next bits of all unfinished sources then stand. */
@@ -128,7 +133,7 @@ static void say_what_is_left(const cards *c, const list *steps)
     for (uint64_t b = 1; b <= c->k; b++) {
         if (unfinished(c, steps, steps->length, b)) {
             printf("  source %" PRIu64 ": %" PRIu64 " of %" PRIu64 " bits are uncovered\n", b,
-                   uncovered(steps, steps->length, b), 8 * c->l);
+                   uncovered(steps, steps->length, b), source_bits(c));
         }
     }
 }

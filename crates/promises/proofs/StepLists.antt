@@ -21,7 +21,7 @@ use Rattle.walk.proofs.ReadLaws.{read-along}
 use Rattle.steps.specs.Steps.{parityNumbers, sourceNumbers, Complete}
 use Rattle.steps.specs.Promise.{unequalChecks, followChecks, stepListChecks, StepsChecked}
 use Rattle.steps.proofs.StepLaws
-use Rattle.steps.proofs.StepLaws.{numbers-tell, numbers-long, order-led, order-complete, complete-parities, complete-sources, complete-finishes, led-none-bad, whole-not-early}
+use Rattle.steps.proofs.StepLaws.{numbers-long, order-led, order-complete, complete-lists, complete-finishes, led-none-bad, whole-not-early}
 use Rattle.survivors.specs.Packets.{cameSource, cameParity}
 use Rattle.promises.specs.StepLists
 use Rattle.promises.specs.StepLists.{FinishedOrder}
@@ -73,7 +73,7 @@ complete-is-finished D parities sources = (to, from)
     to : Complete D parities sources → FinishedOrder D parities sources
     to C = record {
       order = C .led .order;
-      lists = record { parities-are = complete-parities D parities sources C; sources-are = complete-sources D parities sources C };
+      lists = complete-lists D parities sources C;
       end = C .progress;
       run = C .led .run;
       whole = C .whole;
@@ -83,7 +83,7 @@ complete-is-finished D parities sources = (to, from)
     from F = rw (F .lists .parities-are, F .lists .sources-are) (order-complete D (F .run) (F .whole))
 
 pub lists-once : StepLists.ListsOnce
-lists-once parities sources o o′ L M = numbers-tell o o′ (sym (L .parities-are) ∙ M .parities-are) (sym (L .sources-are) ∙ M .sources-are)
+lists-once = StepLaws.lists-once
 
 pub every-finished-order-is-accepted : StepLists.EveryFinishedOrderIsAccepted
 every-finished-order-is-accepted k m l table marks o h number place c u w x =

@@ -14,7 +14,8 @@ use Rattle.walk.specs.Promise.{Walked}
 use Rattle.walk.proofs.Runs.{same-end}
 use Rattle.walk.proofs.Computed.{at-bump}
 use Rattle.walk.proofs.Reached.{at-noughts}
-use Rattle.promises.specs.StepLists.{Lists, Stepping, last, more}
+use Rattle.steps.specs.Steps.{Lists}
+use Rattle.promises.specs.StepLists.{Stepping, last, more}
 
 module _ (D : Desk) where
   -- what a run from here to an end looks like, and the numbers of its steps

@@ -13,7 +13,7 @@ use Rattle.walk.specs.Walk.{Order, Stuck, Run, Whole}
 use Rattle.walk.specs.Ends.{Finishes}
 use Rattle.walk.specs.Read.{presentOf, readAlong}
 use Rattle.walk.specs.Promise.{Walked, Stepped}
-use Rattle.steps.specs.Steps.{parityNumbers, sourceNumbers, FirstBad, Complete}
+use Rattle.steps.specs.Steps.{parityNumbers, sourceNumbers, Lists, FirstBad, Complete}
 use Rattle.steps.specs.Promise.{StepsChecked}
 use Rattle.survivors.specs.Packets.{EncodesTo, cameSource, cameParity}
 use Rattle.rebuild.specs.Promise.{Rebuilt}
@@ -29,11 +29,6 @@ AcceptedExactly =
     → (number ≡ 0) ↔ Complete (desk k m l table marks) parities sources
 
 -- that is, when its entries are the numbers of an order of steps that finishes all missing sources.
-
--- the lists are the numbers, from 1, of this order
-pub record Lists (parities sources : List ℕ) (order : Order) : Type 0 where
-  pub parities-are : parities ≡ parityNumbers order
-  pub sources-are : sources ≡ sourceNumbers order
 
 -- an order with these numbers leads from nothing to where all missing sources are whole
 pub record FinishedOrder (D : Desk) (parities sources : List ℕ) : Type 0 where

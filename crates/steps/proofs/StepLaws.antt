@@ -17,7 +17,7 @@ use Rattle.walk.specs.Compute.{sourceOf}
 use Rattle.walk.proofs.Scan.{source-bare, bare-source}
 use Rattle.walk.proofs.Runs.{run-once, snoc}
 use Rattle.walk.proofs.Reached.{at-noughts, reaches-fits}
-use Rattle.steps.specs.Steps.{parityNumbers, sourceNumbers, BareStep, Led, FirstBad, EndsEarly, Complete}
+use Rattle.steps.specs.Steps.{parityNumbers, sourceNumbers, Lists, BareStep, Led, FirstBad, EndsEarly, Complete}
 use Rattle.steps.specs.Promise.{PlaceTold, Followed}
 
 -- ---- the numbers of an order
@@ -28,8 +28,7 @@ module _ (f : ℕ × ℕ → ℕ) where
   map-take (suc i) [] = refl
   map-take (suc i) (q ∷ o) = ap (λ (r : List ℕ). f q ∷ r) (map-take i o)
 
--- an order is told by its numbers
-pub numbers-tell : (o o′ : Order) → parityNumbers o ≡ parityNumbers o′ → sourceNumbers o ≡ sourceNumbers o′ → o ≡ o′
+numbers-tell : (o o′ : Order) → parityNumbers o ≡ parityNumbers o′ → sourceNumbers o ≡ sourceNumbers o′ → o ≡ o′
 numbers-tell [] [] e f = refl
 numbers-tell [] (q ∷ o′) e f = absurd (omega (arith, ap length e))
 numbers-tell (p ∷ o) [] e f = absurd (omega (arith, ap length e))
@@ -37,6 +36,10 @@ numbers-tell (p ∷ o) (q ∷ o′) e f =
     let e0 : p .0 ≡ q .0 = omega (arith, head-eq-of-cons-eq e) in
     let f0 : p .1 ≡ q .1 = omega (arith, head-eq-of-cons-eq f) in
     ap₂ (λ (r : ℕ × ℕ) (l : Order). r ∷ l) (ap₂ (λ (a b : ℕ). (a, b)) e0 f0) (numbers-tell o o′ (tail-eq-of-cons-eq e) (tail-eq-of-cons-eq f))
+
+-- two lists are the numbers of one order only
+pub lists-once : (parities sources : List ℕ) (o o′ : Order) → Lists parities sources o → Lists parities sources o′ → o ≡ o′
+lists-once parities sources o o′ L M = numbers-tell o o′ (sym (L .parities-are) ∙ M .parities-are) (sym (L .sources-are) ∙ M .sources-are)
 
 -- ---- the search of a parity tells whether two entries are bare
 
@@ -92,14 +95,16 @@ module _ (D : Desk) where
 
     -- no step, and one more that is bare
     pub led-none : Here 0 (λ c. 0)
-    led-none = record { order = []; long = refl; parities-are = refl; sources-are = refl; run = done }
+    led-none = record { order = []; long = refl; lists = record { parities-are = refl; sources-are = refl }; run = done }
 
     pub led-more : {n : ℕ} {g : ℕ → ℕ} → Here n g → n < length parities → n < length sources → (B : BareStep D g (at parities n) (at sources n)) → Here (n + 1) (bump g (B .b))
     led-more {n} L lp ls B = record {
       order = L .order ++ (B .a, B .b) ∷ [];
       long = omega (arith, L .long, length-append (L .order) ((B .a, B .b) ∷ []));
-      parities-are = rw (add-one n) (longer parities lp (λ p. p .0 + 1) (L .parities-are) (B .parity-is));
-      sources-are = rw (add-one n) (longer sources ls (λ p. p .1 + 1) (L .sources-are) (B .source-is));
+      lists = record {
+        parities-are = rw (add-one n) (longer parities lp (λ p. p .0 + 1) (L .lists .parities-are) (B .parity-is));
+        sources-are = rw (add-one n) (longer sources ls (λ p. p .1 + 1) (L .lists .sources-are) (B .source-is));
+      };
       run = snoc D (B .a) (B .b) (L .run) (B .bare);
     }
       where
@@ -115,7 +120,7 @@ module _ (D : Desk) where
     -- the first n entries lead to one progress
     pub led-once : {n : ℕ} {g h : ℕ → ℕ} → Here n g → Here n h → g ≡ h
     led-once {n} {g} {h} L M =
-        let same = numbers-tell (L .order) (M .order) (sym (L .parities-are) ∙ M .parities-are) (sym (L .sources-are) ∙ M .sources-are) in
+        let same = lists-once (take n parities) (take n sources) (L .order) (M .order) (L .lists) (M .lists) in
         run-once D (subst (λ (o : Order). Run D (λ c. 0) o g) same (L .run)) (M .run)
 
     -- each step of what is led is bare where those before it lead
@@ -126,11 +131,13 @@ module _ (D : Desk) where
           record {
             order = take i (L .order);
             long = length-take-le i (L .order) (omega (arith, L .long));
-            parities-are = first parities (λ p. p .0 + 1) (L .parities-are);
-            sources-are = first sources (λ p. p .1 + 1) (L .sources-are);
+            lists = record {
+              parities-are = first parities (λ p. p .0 + 1) (L .lists .parities-are);
+              sources-are = first sources (λ p. p .1 + 1) (L .lists .sources-are);
+            };
             run = t .run;
           },
-          rw (sym (entry parities (λ p. p .0 + 1) (L .parities-are)), sym (entry sources (λ p. p .1 + 1) (L .sources-are))) (t .bare),
+          rw (sym (entry parities (λ p. p .0 + 1) (L .lists .parities-are)), sym (entry sources (λ p. p .1 + 1) (L .lists .sources-are))) (t .bare),
         )
       where
         first : (xs : List ℕ) (f : ℕ × ℕ → ℕ) → take n xs ≡ map f (L .order) → take i xs ≡ map f (take i (L .order))
@@ -230,8 +237,10 @@ pub order-led : (D : Desk) {o : Order} {h : ℕ → ℕ} → Run D (λ c. 0) o h
 order-led D {o} u = record {
   order = o;
   long = sym (length-map o (λ p. p .0 + 1));
-  parities-are = take-length (parityNumbers o);
-  sources-are = ap (λ (n : ℕ). take n (sourceNumbers o)) (numbers-long o) ∙ take-length (sourceNumbers o);
+  lists = record {
+    parities-are = take-length (parityNumbers o);
+    sources-are = ap (λ (n : ℕ). take n (sourceNumbers o)) (numbers-long o) ∙ take-length (sourceNumbers o);
+  };
   run = u;
 }
 
@@ -245,11 +254,11 @@ order-complete D {o} {h} u w = record {
 }
 
 module _ (D : Desk) (parities sources : List ℕ) (C : Complete D parities sources) where
-  pub complete-parities : parities ≡ parityNumbers (C .led .order)
-  complete-parities = sym (take-length parities) ∙ C .led .parities-are
-
-  pub complete-sources : sources ≡ sourceNumbers (C .led .order)
-  complete-sources = sym (take-length sources) ∙ ap (λ (n : ℕ). take n sources) (sym (C .as-long)) ∙ C .led .sources-are
+  pub complete-lists : Lists parities sources (C .led .order)
+  complete-lists = record {
+    parities-are = sym (take-length parities) ∙ C .led .lists .parities-are;
+    sources-are = sym (take-length sources) ∙ ap (λ (n : ℕ). take n sources) (sym (C .as-long)) ∙ C .led .lists .sources-are;
+  }
 
   pub complete-finishes : Finishes D (length parities)
   complete-finishes = record { end = C .progress; reached = led-reaches D parities sources (C .led); whole = C .whole }

@@ -14,6 +14,11 @@ parityNumbers = map (λ p. p .0 + 1)
 abbrev pub sourceNumbers : Order → List ℕ
 sourceNumbers = map (λ p. p .1 + 1)
 
+-- two lists are the numbers of this order
+pub record Lists (parities sources : List ℕ) (order : Order) : Type 0 where
+  pub parities-are : parities ≡ parityNumbers order
+  pub sources-are : sources ≡ sourceNumbers order
+
 -- two entries are the numbers of a parity and a source that are bare at progress g; 0 is the number of none
 pub record BareStep (D : Desk) (g : ℕ → ℕ) (parity source : ℕ) : Type 0 where
   pub a : ℕ
@@ -27,8 +32,7 @@ module _ (D : Desk) (parities sources : List ℕ) where
   pub record Led (n : ℕ) (g : ℕ → ℕ) : Type 0 where
     pub order : Order
     pub long : length order ≡ n
-    pub parities-are : take n parities ≡ parityNumbers order
-    pub sources-are : take n sources ≡ sourceNumbers order
+    pub lists : Lists (take n parities) (take n sources) order
     pub run : Run D (λ c. 0) order g
 
   -- the step at a place, from 1 to the length, is the first that is not bare when its turn comes
