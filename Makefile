@@ -17,7 +17,7 @@ CFLAGS  = -std=c99 -O2 $(WARNINGS)
 
 HEADERS = include/windhawker.h include/windhawker_limits.h
 ARCHIVE = target/staticlib/libwindhawker.a
-SONAME  = libwindhawker.so.2
+SONAME  = libwindhawker.so.3
 SHARED  = target/shared/$(SONAME)
 PAGES   = target/man/windhawker.3
 PC      = target/windhawker.pc

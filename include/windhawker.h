@@ -36,7 +36,8 @@
  *
  * MARKS
  *   The packets at hand, told as one number: bit 0 is set when packet 1 is there, bit 1 for packet
- *   2, and so on. Packets 3 and 4 are marks 12. Exactly k marks are set.
+ *   2, and so on. Packets 3 and 4 are marks 12. Exactly k marks are set: where more packets are
+ *   there, mark k of them and lend only those.
  *
  * STEPS, PROGRESS
  *   Decoding uncovers one bit at a time. progress[b - 1] says how many bits of source b are
@@ -143,9 +144,9 @@
  * WARNINGS
  *   With -Wall, gcc and clang warn where a call's number or struct is not looked at at all, and
  *   where progress is NULL. gcc, from 10 on, also warns where a buffer is shorter than the length
- *   beside it, or is NULL with a length, as far as it knows both. It takes sources[0] of an array of
- *   arrays for one of them: lend the whole as (uint8_t *)sources. A struct of which only the other
- *   members are read passes: look at its number first.
+ *   beside it, or is NULL with a length, as far as it knows both. It takes sources[0] of an array
+ *   of arrays for one of them: lend the whole as (uint8_t *)sources. A struct of which only the
+ *   other members are read passes: look at its number first.
  */
 #ifndef WINDHAWKER_H
 #define WINDHAWKER_H
@@ -155,9 +156,9 @@
 
 #include "windhawker_limits.h"
 
-#define WH_VERSION "0.5.0"
+#define WH_VERSION "0.6.0"
 #define WH_VERSION_MAJOR 0
-#define WH_VERSION_MINOR 5
+#define WH_VERSION_MINOR 6
 
 /* What a compiler is told about the calls; one that does not know the words is told nothing.
  * WH_LOOK_AT_IT: the answer is looked at. WH_READS(3, 4): parameter 3 is a buffer that is read, of
@@ -351,30 +352,15 @@ WH_LOOK_AT_IT
 uint64_t whx_encode_all(uint64_t k, uint64_t m, uint64_t l, const uint8_t *table,
                         uint64_t table_len, const uint8_t *sources, uint64_t sources_len,
                         uint8_t *out, uint64_t out_len);
-WH_LOOK_AT_IT
-uint64_t whx_encode_one(uint64_t k, uint64_t m, uint64_t l, const uint8_t *table,
-                        uint64_t table_len, uint64_t packet, const uint8_t *sources,
-                        uint64_t sources_len, uint8_t *out, uint64_t out_len);
 
 /* Writes all m parities, parity 1 first, each as long as its own row needs, with no gaps:
- * wh_parities_length bytes. Checks 1 2 3 4 5. */
+ * wh_parities_length bytes. One packet alone is encoded by wh_packet. Checks 1 2 3 4 5. */
 WH_LOOK_AT_IT WH_READS(4, 5) WH_READS(6, 7) WH_WRITES(8, 9)
 static inline uint64_t wh_encode_all(uint64_t k, uint64_t m, uint64_t l, const uint8_t *table,
                                      uint64_t table_len, const uint8_t *sources,
                                      uint64_t sources_len, uint8_t *out, uint64_t out_len)
 {
     return whx_encode_all(k, m, l, wh_read_place(table), table == NULL ? 0 : table_len,
-                          wh_read_place(sources), sources == NULL ? 0 : sources_len,
-                          wh_write_place(out), out == NULL ? 0 : out_len);
-}
-
-/* Writes one packet, a source or a parity: wh_packet_length bytes. Checks 1 2 3 6 4 5. */
-WH_LOOK_AT_IT WH_READS(4, 5) WH_READS(7, 8) WH_WRITES(9, 10)
-static inline uint64_t wh_encode_one(uint64_t k, uint64_t m, uint64_t l, const uint8_t *table,
-                                     uint64_t table_len, uint64_t packet, const uint8_t *sources,
-                                     uint64_t sources_len, uint8_t *out, uint64_t out_len)
-{
-    return whx_encode_one(k, m, l, wh_read_place(table), table == NULL ? 0 : table_len, packet,
                           wh_read_place(sources), sources == NULL ? 0 : sources_len,
                           wh_write_place(out), out == NULL ? 0 : out_len);
 }
@@ -466,7 +452,7 @@ static inline wh_checked wh_check_steps(uint64_t k, uint64_t m, uint64_t l, cons
     return checked;
 }
 
-/* ---- Rebuild, repair, look ------------------------------------------------------------------- */
+/* ---- Rebuild, packet, look ------------------------------------------------------------------- */
 
 typedef struct {
     uint64_t number;
@@ -485,7 +471,7 @@ uint64_t whx_rebuild(uint64_t k, uint64_t m, uint64_t l, const uint8_t *table, u
                      uint64_t marks, const uint8_t *packets, uint64_t packets_len, uint8_t *out,
                      uint64_t out_len, uint64_t *count);
 WH_LOOK_AT_IT
-uint64_t whx_repair(uint64_t k, uint64_t m, uint64_t l, const uint8_t *table, uint64_t table_len,
+uint64_t whx_packet(uint64_t k, uint64_t m, uint64_t l, const uint8_t *table, uint64_t table_len,
                     uint64_t marks, const uint8_t *packets, uint64_t packets_len, uint64_t packet,
                     uint8_t *out, uint64_t out_len);
 WH_LOOK_AT_IT WH_PLACE(8) WH_PLACE(10)
@@ -509,15 +495,22 @@ static inline wh_rebuilt wh_rebuild(uint64_t k, uint64_t m, uint64_t l, const ui
     return rebuilt;
 }
 
-/* Writes one packet as it is encoded from the rebuilt sources, be it lost or at hand:
- * wh_packet_length bytes. Checks 1 2 3 6 7 4 5 8 9 10. */
+/* Writes any one packet, lost or at hand, from the k packets at hand: wh_packet_length bytes, as it
+ * is encoded from the sources that they give. The packets take wh_survivors_length bytes, lowest
+ * number first. The marks stand before them, the number of the wanted packet behind them; no
+ * compiler tells the two apart. To encode a packet, lend the sources as the packets, with the marks
+ * of packets 1 to k: ((uint64_t)1 << k) - 1, once k is known to be at most WH_MAX_K, since C gives
+ * no meaning to a shift by 64 or more. Then nothing is decoded, and 7, 8, 9 and 10 do not occur.
+ * Where a source is missing all k packets are decoded, for a packet at hand too: 8, 9 and 10 may
+ * refuse it because of another card. (wh_look finds a source at hand without that.)
+ * Checks 1 2 3 6 7 4 5 8 9 10. */
 WH_LOOK_AT_IT WH_READS(4, 5) WH_READS(7, 8) WH_WRITES(10, 11)
-static inline uint64_t wh_repair(uint64_t k, uint64_t m, uint64_t l, const uint8_t *table,
+static inline uint64_t wh_packet(uint64_t k, uint64_t m, uint64_t l, const uint8_t *table,
                                  uint64_t table_len, uint64_t marks, const uint8_t *packets,
                                  uint64_t packets_len, uint64_t packet, uint8_t *out,
                                  uint64_t out_len)
 {
-    return whx_repair(k, m, l, wh_read_place(table), table == NULL ? 0 : table_len, marks,
+    return whx_packet(k, m, l, wh_read_place(table), table == NULL ? 0 : table_len, marks,
                       wh_read_place(packets), packets == NULL ? 0 : packets_len, packet,
                       wh_write_place(out), out == NULL ? 0 : out_len);
 }

@@ -20,9 +20,9 @@ static size_t gather(uint64_t marks, uint8_t *packets)
             wh_measured measured = wh_packet_length(K, M, L, table, sizeof table, packet);
             must(measured.number, "wh_packet_length");
             size_t length = (size_t)measured.length;
-            must(wh_encode_one(K, M, L, table, sizeof table, packet, sources, K * L, packets + used,
-                               length),
-                 "wh_encode_one");
+            must(wh_packet(K, M, L, table, sizeof table, source_marks(K), sources, K * L, packet,
+                           packets + used, length),
+                 "wh_packet");
             used += length;
         }
     }
@@ -63,9 +63,9 @@ static void repair(uint64_t marks, uint64_t packet)
 {
     uint8_t packets[N * WH_LONGEST], written[WH_LONGEST], fresh[WH_LONGEST];
     size_t length = gather((uint64_t)1 << (packet - 1), written);
-    must(wh_repair(K, M, L, table, sizeof table, marks, packets, gather(marks, packets), packet,
+    must(wh_packet(K, M, L, table, sizeof table, marks, packets, gather(marks, packets), packet,
                    fresh, length),
-         "wh_repair");
+         "wh_packet");
     printf("card %" PRIu64 " repaired: ", packet);
     print_bytes(fresh, length);
     printf(memcmp(written, fresh, length) == 0 ? ", as it was\n" : ", NOT as it was\n");

@@ -124,8 +124,8 @@ static void write_stripe(const job *j, const uint8_t *sources)
     uint8_t bytes[WH_LONGEST];
     for (uint64_t packet = 1; packet <= j->k + j->m; packet++) {
         size_t length = packet_length(j, packet);
-        must(wh_encode_one(j->k, j->m, j->l, j->table, j->table_len, packet, sources, j->stripe,
-                           bytes, length),
+        must(wh_packet(j->k, j->m, j->l, j->table, j->table_len, source_marks(j->k), sources,
+                       j->stripe, packet, bytes, length),
              "cards:");
         put(&outputs[packet - 1], bytes, length);
     }
@@ -290,8 +290,8 @@ static void compare_other_cards(const job *j, uint64_t marks, FILE *const *cards
         }
         size_t length = packet_length(j, packet);
         read_packet(j, packet, cards[packet - 1], found, length);
-        must(wh_encode_one(j->k, j->m, j->l, j->table, j->table_len, packet, sources, j->stripe,
-                           wanted, length),
+        must(wh_packet(j->k, j->m, j->l, j->table, j->table_len, source_marks(j->k), sources,
+                       j->stripe, packet, wanted, length),
              "cards:");
         if (memcmp(found, wanted, length) != 0) {
             refuse("a card is bad or of another log, or K, M or L is wrong, in", j->folder);

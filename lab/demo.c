@@ -71,9 +71,9 @@ static void encode(void)
         wh_measured measured = wh_packet_length(K, M, L, table, sizeof table, packet);
         must(measured.number, "wh_packet_length");
         lengths[packet - 1] = (size_t)measured.length;
-        must(wh_encode_one(K, M, L, table, sizeof table, packet, sources, sizeof sources,
-                           cards[packet - 1], lengths[packet - 1]),
-             "wh_encode_one");
+        must(wh_packet(K, M, L, table, sizeof table, source_marks(K), sources, sizeof sources,
+                       packet, cards[packet - 1], lengths[packet - 1]),
+             "wh_packet");
     }
 }
 

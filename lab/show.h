@@ -57,6 +57,13 @@ static inline int read_number(const char *word, uint64_t most, uint64_t *number)
     return 1;
 }
 
+/* The marks of packets 1 to k, which are the sources: with them wh_packet encodes. C gives no
+ * meaning to a shift by 64 or more; a k above WH_MAX_K is refused whatever the marks are. */
+static inline uint64_t source_marks(uint64_t k)
+{
+    return k > WH_MAX_K ? 0 : ((uint64_t)1 << k) - 1;
+}
+
 /* The numbers of the packets at hand, from their marks. */
 static inline void print_marks(uint64_t marks)
 {

@@ -5,6 +5,7 @@
 #include "calls_block.h"
 #include "calls_chain.h"
 #include "calls_encode.h"
+#include "calls_packet.h"
 #include "calls_rebuild.h"
 #include "calls_steps.h"
 #include "calls_table.h"
@@ -17,12 +18,11 @@ static const call *const calls[] = {
     &parities_length_call,
     &survivors_length_call,
     &encode_all_call,
-    &encode_one_call,
     &walk_call,
     &next_step_call,
     &check_steps_call,
     &rebuild_call,
-    &repair_call,
+    &packet_call,
     &look_call,
     &block_call,
     &read_blocks_call,

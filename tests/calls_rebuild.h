@@ -1,4 +1,4 @@
-/* The calls that rebuild, repair and look, each beside its model and a maker of good questions. */
+/* The calls that rebuild and look, each beside its model and a maker of good questions. */
 #ifndef CALLS_REBUILD_H
 #define CALLS_REBUILD_H
 
@@ -13,13 +13,6 @@ static inline answer ask_rebuild(const question *q, const lent *at)
     return numbered(rebuilt.number, rebuilt.count);
 }
 
-static inline answer ask_repair(const question *q, const lent *at)
-{
-    uint64_t number = wh_repair(q->k, q->m, q->l, at->table, q->table.length, q->marks, at->input,
-                                q->input.length, q->packet, at->output, q->output.length);
-    return numbered(number, 0);
-}
-
 static inline answer ask_look(const question *q, const lent *at)
 {
     wh_looked looked = wh_look(q->k, q->m, q->l, at->table, q->table.length, q->marks, q->source,
@@ -31,7 +24,6 @@ static inline answer ask_look(const question *q, const lent *at)
 }
 
 static const call rebuild_call = {"rebuild", ask_rebuild, model_rebuild, draw_for_rebuild};
-static const call repair_call = {"repair", ask_repair, model_repair, draw_for_repair};
 static const call look_call = {"look", ask_look, model_look, draw_for_look};
 
 /* Compares rebuild at damaged packets of any size, of short sources. */

@@ -162,9 +162,29 @@ void draw_marks(question *q)
     }
 }
 
+/* C gives no meaning to a shift by 64 or more. */
+void keep_every_source(question *q)
+{
+    q->marks = q->k < 64 ? ((uint64_t)1 << q->k) - 1 : UINT64_MAX;
+}
+
 void lose_every_source(question *q)
 {
-    q->marks = (((uint64_t)1 << q->k) - 1) << q->k;
+    keep_every_source(q);
+    q->marks <<= q->k;
+}
+
+void ask_at_all_small_marks(void (*ask)(question *q))
+{
+    for (uint64_t shape = 0; shape < 27; shape++) {
+        question q = house_question(shape / 9 + 1, shape / 3 % 3 + 1, shape % 3 + 1);
+        for (q.marks = 0; q.marks < (uint64_t)2 << (q.k + q.m); q.marks++) {
+            for (int i = 0; i < 4; i++) {
+                draw_table(&q);
+                ask(&q);
+            }
+        }
+    }
 }
 
 void fit_sources(question *q, uint64_t output_length)
@@ -246,12 +266,6 @@ void draw_for_encode_all(question *q)
     fit_sources(q, parities_bytes(q));
 }
 
-void draw_for_encode_one(question *q)
-{
-    draw_for_packet_length(q);
-    fit_sources(q, packet_bytes(q, q->packet));
-}
-
 void draw_for_walk(question *q)
 {
     draw_for_survivors_length(q);
@@ -286,11 +300,23 @@ void draw_for_rebuild(question *q)
     }
 }
 
-void draw_for_repair(question *q)
+/* One in four where no source is missing. */
+void draw_for_packet(question *q)
 {
+    if (random_below(4) == 0) {
+        draw_for_packet_of_sources(q);
+        return;
+    }
     draw_for_rebuild(q);
     q->packet = random_between(1, q->k + q->m);
     set_bytes(&q->output, packet_bytes(q, q->packet));
+}
+
+void draw_for_packet_of_sources(question *q)
+{
+    draw_for_packet_length(q);
+    keep_every_source(q);
+    fit_sources(q, packet_bytes(q, q->packet));
 }
 
 void draw_for_look(question *q)

@@ -19,11 +19,16 @@ question family_question(uint64_t table);
 /* Goes to the next choice of exactly k marks, from marks 0 on; false after the last. */
 bool next_choice(question *q);
 
+/* All marks, right and wrong ones, of all shapes up to three by three, each with four drawn
+ * tables. */
+void ask_at_all_small_marks(void (*ask)(question *q));
+
 /* Parts. The shape is k, m, l and a table of one of several kinds; the marks are exactly k. */
 void draw_shape(question *q);
 void draw_small_shape(question *q, uint64_t most, uint64_t longest);
 void draw_table(question *q);
 void draw_marks(question *q);
+void keep_every_source(question *q); /* packets 1 to k are at hand; k may be any number */
 void lose_every_source(question *q); /* parities 1 to k are at hand */
 void set_house_table(question *q);
 void set_family_table(question *q, uint64_t family);
@@ -44,12 +49,12 @@ void draw_for_packet_length(question *q);
 void draw_for_parities_length(question *q);
 void draw_for_survivors_length(question *q);
 void draw_for_encode_all(question *q);
-void draw_for_encode_one(question *q);
 void draw_for_walk(question *q);
 void draw_for_next_step(question *q);
 void draw_for_check_steps(question *q);
 void draw_for_rebuild(question *q);
-void draw_for_repair(question *q);
+void draw_for_packet(question *q);
+void draw_for_packet_of_sources(question *q);
 void draw_for_look(question *q);
 void draw_for_block(question *q);
 void draw_for_read_blocks(question *q);

@@ -1,5 +1,6 @@
-/* Encode all and encode one. */
+/* Encoding: all parities, and each packet by itself. */
 #include "calls_encode.h"
+#include "calls_packet.h"
 #include "check.h"
 #include "random.h"
 
@@ -12,7 +13,7 @@ static void compare_all_packets(question *q)
     compare(&encode_all_call, q);
     for (q->packet = 1; q->packet <= q->k + q->m; q->packet++) {
         set_bytes(&q->output, packet_bytes(q, q->packet));
-        compare(&encode_one_call, q);
+        compare(&packet_of_sources_call, q);
     }
 }
 
@@ -99,16 +100,6 @@ static void encode_all_spoiled(void)
     compare_spoiled(&encode_all_call, 6000);
 }
 
-static void encode_one_takes_any_numbers(void)
-{
-    compare_any_numbers(&encode_one_call, 10);
-}
-
-static void encode_one_spoiled(void)
-{
-    compare_spoiled(&encode_one_call, 10000);
-}
-
 int main(void)
 {
     static const named_test tests[] = {
@@ -120,8 +111,6 @@ int main(void)
         {"encode_equal_sources_cancel", equal_sources_cancel},
         {"encode_all_takes_any_numbers", encode_all_takes_any_numbers},
         {"encode_all_spoiled", encode_all_spoiled},
-        {"encode_one_takes_any_numbers", encode_one_takes_any_numbers},
-        {"encode_one_spoiled", encode_one_spoiled},
     };
     return run_named_tests(tests, sizeof tests / sizeof tests[0]);
 }

@@ -40,6 +40,12 @@ question with_marks(question q, uint64_t marks, const char *packets)
     return with_input(q, packets);
 }
 
+question wanting(question q, uint64_t packet)
+{
+    q.packet = packet;
+    return q;
+}
+
 static void hold(const call *asked, const question *q, answer right, const bytes *right_output)
 {
     uint8_t output[BYTES_MOST];

@@ -10,6 +10,7 @@ question example(void);
 question with_table(uint64_t k, uint64_t m, const char *table); /* l = 1 */
 question with_input(question q, const char *input);
 question with_marks(question q, uint64_t marks, const char *packets);
+question wanting(question q, uint64_t packet);
 void set_hex(bytes *to, const char *hex);
 
 /* Done: the output is lent as many bytes as are expected in it, each AA before. */

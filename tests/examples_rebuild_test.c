@@ -1,4 +1,4 @@
-/* Worked examples of rebuild, repair and look,
+/* Worked examples of rebuild and look,
  * and inputs that tell known wrong programs from right ones. */
 #include "calls_rebuild.h"
 #include "check.h"
@@ -121,40 +121,6 @@ static void rebuild_marks_before_lengths(void)
     refuses(&rebuild_call, with_marks(example(), 0x18, "00"), refused(WH_PACKET), 9);
 }
 
-static void repair_each_packet(void)
-{
-    question q = with_marks(example(), 12, "00 01 80 03");
-    q.packet = 2;
-    gives(&repair_call, q, done(), "C0");
-    q.packet = 3;
-    gives(&repair_call, q, done(), "00 01");
-}
-
-static void repair_each_at_its_own_length(void)
-{
-    question q = with_marks(with_table(2, 2, "00 01 00 09"), 3, "80 C0");
-    q.packet = 3;
-    gives(&repair_call, q, done(), "00 01");
-    refuses(&repair_call, q, refused(WH_OUTPUT), 3);
-    q.packet = 4;
-    gives(&repair_call, q, done(), "80 80 01");
-    refuses(&repair_call, q, refused(WH_OUTPUT), 2);
-}
-
-static void repair_of_packet_at_hand_still_rebuilds(void)
-{
-    question q = with_marks(example(), 12, "03 00 05 01");
-    q.packet = 3;
-    refuses(&repair_call, q, refused(WH_FOREIGN), 2);
-}
-
-static void repair_gives_no_count_on_a_stall(void)
-{
-    question q = with_marks(with_table(2, 2, "00 07 00 07"), 12, "00 00 00 00");
-    q.packet = 1;
-    refuses(&repair_call, q, refused(WH_STALL), 1);
-}
-
 static answer look_answer(uint64_t buffer, uint64_t start)
 {
     answer right = done_with(buffer);
@@ -209,11 +175,6 @@ int main(void)
         {"example_rebuild_finished_source_covers_nothing", rebuild_finished_source_covers_nothing},
         {"example_rebuild_three_rows_is_8_after_0", rebuild_three_rows_is_8_after_0},
         {"example_rebuild_marks_before_lengths", rebuild_marks_before_lengths},
-        {"example_repair_each_packet", repair_each_packet},
-        {"example_repair_each_at_its_own_length", repair_each_at_its_own_length},
-        {"example_repair_of_packet_at_hand_still_rebuilds",
-         repair_of_packet_at_hand_still_rebuilds},
-        {"example_repair_gives_no_count_on_a_stall", repair_gives_no_count_on_a_stall},
         {"example_look_chooses_by_the_mark", look_chooses_by_the_mark},
         {"example_look_with_uneven_rows", look_with_uneven_rows},
     };

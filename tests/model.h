@@ -18,16 +18,19 @@ model_call model_packet_length;    /* results: length */
 model_call model_parities_length;  /* results: length */
 model_call model_survivors_length; /* results: length */
 model_call model_encode_all;       /* results: none */
-model_call model_encode_one;       /* results: none */
 model_call model_walk;             /* results: count, whole, progress */
 model_call model_next_step;        /* results: parity, source, progress */
 model_call model_check_steps;      /* results: place */
 model_call model_rebuild;          /* results: count */
-model_call model_repair;           /* results: none */
+model_call model_packet;           /* results: none */
 model_call model_look;             /* results: buffer, start, length */
 model_call model_block;            /* results: length, sequence, more */
 model_call model_read_blocks;      /* results: length */
 model_call model_write_blocks;     /* results: length */
+
+/* What packet should answer with marks 1 to k, whatever marks the question has. It decodes nothing:
+ * the checks are 1 2 3 6 4 5. */
+model_call model_encode_one; /* results: none */
 
 /* The shape: the number of the first check among 1 2 3 (or 1 2 3 6 7) that refuses, or WH_DONE. */
 uint64_t shape_number(const question *q);

@@ -211,7 +211,7 @@ static uint64_t asked_number(const question *q, uint64_t asked, uint64_t most)
     return asked < 1 || asked > most ? WH_PACKET : marked_shape_number(q);
 }
 
-answer model_repair(const question *q, uint8_t *output)
+answer model_packet(const question *q, uint8_t *output)
 {
     uint8_t sources[WH_MAX_K * WH_MAX_LENGTH];
     uint64_t number = asked_number(q, q->packet, q->k + q->m);

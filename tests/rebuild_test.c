@@ -1,21 +1,9 @@
-/* Rebuild, repair and look. */
+/* Rebuild and look. */
 #include "calls_rebuild.h"
 #include "check.h"
 #include "random.h"
 
 #include <string.h>
-
-/* Rebuild and the repair of every packet, with these packets at hand. */
-static void compare_rebuild_and_repair(question *q)
-{
-    q->packet = 0;
-    set_bytes(&q->output, q->k * q->l);
-    compare(&rebuild_call, q);
-    for (q->packet = 1; q->packet <= q->k + q->m; q->packet++) {
-        set_bytes(&q->output, packet_bytes(q, q->packet));
-        compare(&repair_call, q);
-    }
-}
 
 /* Encoded packets give the sources back; the count is 8 l for each missing one. */
 static void expect_round_trip(question *q)
@@ -83,19 +71,15 @@ static void rebuild_at_the_limits(void)
     }
 }
 
-/* All marks, right and wrong ones, of all shapes up to three by three. */
+static void compare_fitted(question *q)
+{
+    fit_survivors(q, q->k * q->l);
+    compare(&rebuild_call, q);
+}
+
 static void all_marks_of_small_shapes(void)
 {
-    for (uint64_t shape = 0; shape < 27; shape++) {
-        question q = house_question(shape / 9 + 1, shape / 3 % 3 + 1, shape % 3 + 1);
-        for (q.marks = 0; q.marks < (uint64_t)2 << (q.k + q.m); q.marks++) {
-            for (int i = 0; i < 4; i++) {
-                draw_table(&q);
-                fit_survivors(&q, 0);
-                compare_rebuild_and_repair(&q);
-            }
-        }
-    }
+    ask_at_all_small_marks(compare_fitted);
 }
 
 /* Every value of a lone parity of one source, so every kind of damage it can have. */
@@ -209,20 +193,6 @@ static void damaged_packets_of_any_shape(void)
     compare_damaged(2500);
 }
 
-static void repair_every_packet(void)
-{
-    question q;
-    for (int i = 0; i < 500; i++) {
-        draw_small_shape(&q, 4, 4);
-        draw_marks(&q);
-        fit_survivors(&q, 0);
-        if (i % 3 == 0) {
-            damage(&q.input);
-        }
-        compare_rebuild_and_repair(&q);
-    }
-}
-
 static void rebuild_takes_any_numbers(void)
 {
     compare_any_numbers(&rebuild_call, 6);
@@ -231,16 +201,6 @@ static void rebuild_takes_any_numbers(void)
 static void rebuild_spoiled(void)
 {
     compare_spoiled(&rebuild_call, 3000);
-}
-
-static void repair_takes_any_numbers(void)
-{
-    compare_any_numbers(&repair_call, 6);
-}
-
-static void repair_spoiled(void)
-{
-    compare_spoiled(&repair_call, 3000);
 }
 
 static void look_at_every_source_of_small_shapes(void)
@@ -321,9 +281,6 @@ int main(void)
         {"rebuild_damaged_packets_of_any_shape", damaged_packets_of_any_shape},
         {"rebuild_takes_any_numbers", rebuild_takes_any_numbers},
         {"rebuild_spoiled", rebuild_spoiled},
-        {"repair_every_packet", repair_every_packet},
-        {"repair_takes_any_numbers", repair_takes_any_numbers},
-        {"repair_spoiled", repair_spoiled},
         {"look_at_every_source_of_small_shapes", look_at_every_source_of_small_shapes},
         {"look_hands_out_no_copy", look_hands_out_no_copy},
         {"look_refused_is_nowhere", look_refused_is_nowhere},

@@ -1,5 +1,6 @@
-/* Counts the instructions of encode all and of rebuild. QEMU with `-icount shift=0` lets time go on
- * by the same amount with each instruction; a loop of known length says how many a tick has. */
+/* Counts the instructions of encode all, of the last parity alone and of rebuild. QEMU with
+ * `-icount shift=0` lets time go on by the same amount with each instruction; a loop of known
+ * length says how many a tick has. */
 #include "semihosting.h"
 #include "windhawker.h"
 
@@ -91,6 +92,24 @@ static void count_encode_all(const shape *s, size_t cells, size_t all)
     say_count(number == WH_DONE ? "encode_all" : "refused", s, count);
 }
 
+/* The packet of the highest number, encoded from the sources. */
+static void count_last_parity(const shape *s, size_t cells)
+{
+    uint64_t number = WH_DONE, marks = ((uint64_t)1 << s->k) - 1, last = s->k + s->m;
+    wh_measured packet = wh_packet_length(s->k, s->m, s->l, table, cells, last);
+    if (packet.number != WH_DONE) {
+        say_count("refused", s, packet.number);
+        return;
+    }
+    uint32_t began = ticks();
+    for (int i = 0; i < REPEATS; i++) {
+        number |= wh_packet(s->k, s->m, s->l, table, cells, marks, sources, (size_t)(s->k * s->l),
+                            last, packets, (size_t)packet.length);
+    }
+    uint64_t count = instructions_since(began) / REPEATS;
+    say_count(number == WH_DONE ? "last_parity" : "refused", s, count);
+}
+
 /* As many sources lost as there are parities for. Those at hand stand before the first so many
  * parities. */
 static void count_rebuild(const shape *s, size_t cells)
@@ -141,6 +160,7 @@ int main(void)
             return 1;
         }
         count_encode_all(s, cells, (size_t)all.length);
+        count_last_parity(s, cells);
         count_rebuild(s, cells);
     }
     return 0;

@@ -1,4 +1,5 @@
-/* Rebuild, repair and look at drawn questions; half of the packets are damaged. */
+/* Rebuild, packet and look at drawn questions; some of the packets are damaged. */
+#include "calls_packet.h"
 #include "calls_rebuild.h"
 #include "check.h"
 
@@ -13,9 +14,9 @@ static void rebuild(void)
     compare_drawn(&rebuild_call);
 }
 
-static void repair(void)
+static void packet(void)
 {
-    compare_drawn(&repair_call);
+    compare_drawn(&packet_call);
 }
 
 static void look(void)
@@ -44,7 +45,7 @@ int main(void)
 {
     static const named_test tests[] = {
         {"drawn_rebuild", rebuild},
-        {"drawn_repair", repair},
+        {"drawn_packet", packet},
         {"drawn_look", look},
         {"drawn_damaged_packets", damaged_packets},
         {"drawn_rebuild_at_the_limits", at_the_limits},

@@ -2,6 +2,7 @@
 #include "calls_block.h"
 #include "calls_chain.h"
 #include "calls_encode.h"
+#include "calls_packet.h"
 #include "calls_steps.h"
 #include "calls_table.h"
 #include "calls_walk.h"
@@ -43,9 +44,9 @@ static void encode_all(void)
     compare_drawn(&encode_all_call);
 }
 
-static void encode_one(void)
+static void packet_of_sources(void)
 {
-    compare_drawn(&encode_one_call);
+    compare_drawn(&packet_of_sources_call);
 }
 
 static void walk(void)
@@ -117,7 +118,7 @@ int main(void)
         {"drawn_parities_length", parities_length},
         {"drawn_survivors_length", survivors_length},
         {"drawn_encode_all", encode_all},
-        {"drawn_encode_one", encode_one},
+        {"drawn_packet_of_sources", packet_of_sources},
         {"drawn_walk", walk},
         {"drawn_next_step", next_step},
         {"drawn_check_steps", check_steps},

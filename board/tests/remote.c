@@ -70,17 +70,6 @@ uint64_t whx_encode_all(uint64_t k, uint64_t m, uint64_t l, const uint8_t *table
     return run(&e).number;
 }
 
-uint64_t whx_encode_one(uint64_t k, uint64_t m, uint64_t l, const uint8_t *table,
-                        uint64_t table_len, uint64_t packet, const uint8_t *sources,
-                        uint64_t sources_len, uint8_t *out, uint64_t out_len)
-{
-    errand e = shaped_errand(ENCODE_ONE, k, m, l, table, table_len);
-    e.words.packet = packet;
-    lend_input(&e, INPUT, sources, sources_len);
-    lend_output(&e, out, out_len);
-    return run(&e).number;
-}
-
 uint64_t whx_walk(uint64_t k, uint64_t m, uint64_t l, const uint8_t *table, uint64_t table_len,
                   uint64_t marks, uint64_t *count, uint64_t *whole, uint64_t progress[WH_MAX_K])
 {
@@ -130,11 +119,11 @@ uint64_t whx_rebuild(uint64_t k, uint64_t m, uint64_t l, const uint8_t *table, u
     return run_for_one(&e, count);
 }
 
-uint64_t whx_repair(uint64_t k, uint64_t m, uint64_t l, const uint8_t *table, uint64_t table_len,
+uint64_t whx_packet(uint64_t k, uint64_t m, uint64_t l, const uint8_t *table, uint64_t table_len,
                     uint64_t marks, const uint8_t *packets, uint64_t packets_len, uint64_t packet,
                     uint8_t *out, uint64_t out_len)
 {
-    errand e = shaped_errand(REPAIR, k, m, l, table, table_len);
+    errand e = shaped_errand(PACKET, k, m, l, table, table_len);
     e.words.marks = marks;
     e.words.packet = packet;
     lend_input(&e, INPUT, packets, packets_len);

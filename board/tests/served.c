@@ -141,9 +141,6 @@ __attribute__((noinline)) static uint64_t ask(void)
     case ENCODE_ALL:
         return wh_encode_all(SHAPE, buffers[INPUT], lengths[INPUT], buffers[OUTPUT],
                              lengths[OUTPUT]);
-    case ENCODE_ONE:
-        return wh_encode_one(SHAPE, asked.packet, buffers[INPUT], lengths[INPUT], buffers[OUTPUT],
-                             lengths[OUTPUT]);
     case WALK:
         return walk();
     case NEXT_STEP:
@@ -152,8 +149,8 @@ __attribute__((noinline)) static uint64_t ask(void)
         return check_steps();
     case REBUILD:
         return rebuild();
-    case REPAIR:
-        return wh_repair(SHAPE, asked.marks, buffers[INPUT], lengths[INPUT], asked.packet,
+    case PACKET:
+        return wh_packet(SHAPE, asked.marks, buffers[INPUT], lengths[INPUT], asked.packet,
                          buffers[OUTPUT], lengths[OUTPUT]);
     case LOOK:
         return look();

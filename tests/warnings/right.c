@@ -16,12 +16,11 @@ uint64_t ask_all(void)
     number |= wh_parities_length(2, 2, 1, table, 4).number;
     number |= wh_survivors_length(2, 2, 1, table, 4, 12).number;
     number |= wh_encode_all(2, 2, 1, table, 4, input, 4, output, 4);
-    number |= wh_encode_one(2, 2, 1, table, 4, 3, input, 4, output, 4);
     number |= wh_walk(2, 2, 1, table, 4, 12).number;
     number |= wh_next_step(2, 2, 1, table, 4, 12, progress).number;
     number |= wh_check_steps(2, 2, 1, table, 4, 12, input, 4, rebuilt, 4).number;
     number |= wh_rebuild(2, 2, 1, table, 4, 12, input, 4, output, 4).number;
-    number |= wh_repair(2, 2, 1, table, 4, 12, input, 4, 3, output, 4);
+    number |= wh_packet(2, 2, 1, table, 4, 12, input, 4, 3, output, 4);
     number |= wh_look(2, 2, 1, table, 4, 12, 1, input, 4, rebuilt, 4).number;
     number |= wh_block(input, 4, output, 4).number;
     number |= wh_read_blocks(input, 4, output, 4).number;

@@ -1,11 +1,11 @@
--- What the calls encode all, encode one, packet length, parities' length and survivors' length promise.
+-- What the calls encode all, packet length, parities' length and survivors' length promise; and what encode one gave, which is no call any more.
 use mathlib.Core.Path.{_≡_}
 use mathlib.Core.List.{List, _++_}
 use Prim.Native.Nat.{ℕ, _+_, _-_}
-use Rattle.table.specs.Desk.{desk, packetBytes, paritiesBytes, survivorsBytes}
-use Rattle.table.specs.Checks.{Checks, Answered, shapeChecks, markedChecks, numberChecks}
+use Rattle.table.specs.Desk.{desk, sourcesBytes, packetBytes, paritiesBytes, survivorsBytes}
+use Rattle.table.specs.Checks.{Checks, Answered, shapeChecks, markedChecks, numberChecks, inputChecks, outputChecks}
 use Rattle.code.specs.Code.{packetOf, paritiesOf}
-use Rattle.encode.specs.Stages.{allChecks, oneChecks}
+use Rattle.encode.specs.Stages.{allChecks}
 
 -- 1 2 3 4 5
 abbrev pub encodeChecks : ℕ → ℕ → ℕ → List ℕ → List ℕ → List ℕ → Checks
@@ -16,9 +16,12 @@ abbrev pub EncodedAll : ℕ → ℕ → ℕ → List ℕ → List ℕ → List �
 EncodedAll k m l table sources before number after =
     Answered (encodeChecks k m l table sources before) number (after ≡ before) (after ≡ paritiesOf (desk k m l table 0) sources)
 
+-- What encode one gave. No call has these two any more: the call packet gives the same from the k sources (promises, AnyPacket).
 -- 1 2 3 6 4 5
 abbrev pub encodeOneChecks : ℕ → ℕ → ℕ → List ℕ → ℕ → List ℕ → List ℕ → Checks
-encodeOneChecks k m l table packet sources before = shapeChecks k m l table ++ oneChecks (desk k m l table 0) packet sources before
+encodeOneChecks k m l table packet sources before =
+    let D = desk k m l table 0 in
+    shapeChecks k m l table ++ numberChecks (k + m) packet ++ inputChecks (sourcesBytes D) sources ++ outputChecks (packetBytes D (packet - 1)) before
 
 -- Encode one: its number; refused, the output as it was; else the packet of that number, from 1.
 abbrev pub EncodedOne : ℕ → ℕ → ℕ → List ℕ → ℕ → List ℕ → List ℕ → ℕ → List ℕ → Type 0

@@ -4,7 +4,7 @@ use mathlib.Core.List.{List, _++_}
 use Prim.Native.Nat.{ℕ, _+_, _-_}
 use Rattle.table.specs.Desk.{Desk, sourcesBytes, packetBytes, paritiesBytes}
 use Rattle.table.specs.Checks.{Checks, Answered, numberChecks, inputChecks, outputChecks}
-use Rattle.code.specs.Code.{packetOf, paritiesOf}
+use Rattle.code.specs.Code.{paritiesOf}
 
 module _ (D : Desk) where
   open Desk D using (k, m)
@@ -15,20 +15,6 @@ module _ (D : Desk) where
 
   abbrev pub AllGiven : List ℕ → List ℕ → ℕ → List ℕ → Type 0
   AllGiven sources before number after = Answered (allChecks sources before) number (after ≡ before) (after ≡ paritiesOf D sources)
-
-  -- 4 5 of encode one, for packet i, from 0
-  abbrev pub lendChecks : ℕ → List ℕ → List ℕ → Checks
-  lendChecks i sources before = inputChecks (sourcesBytes D) sources ++ outputChecks (packetBytes D i) before
-
-  abbrev pub EncodingGiven : ℕ → List ℕ → List ℕ → ℕ → List ℕ → Type 0
-  EncodingGiven i sources before number after = Answered (lendChecks i sources before) number (after ≡ before) (after ≡ packetOf D sources i)
-
-  -- 6 4 5 of encode one, for a packet's number, from 1
-  abbrev pub oneChecks : ℕ → List ℕ → List ℕ → Checks
-  oneChecks packet sources before = numberChecks (k + m) packet ++ lendChecks (packet - 1) sources before
-
-  abbrev pub OneGiven : ℕ → List ℕ → List ℕ → ℕ → List ℕ → Type 0
-  OneGiven packet sources before number after = Answered (oneChecks packet sources before) number (after ≡ before) (after ≡ packetOf D sources (packet - 1))
 
   -- 6 of packet length
   abbrev pub LengthGiven : ℕ → ℕ → ℕ → Type 0

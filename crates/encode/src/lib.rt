@@ -1,11 +1,11 @@
-// Encoding: all parities, or one packet; and how long packets are.
+// Encoding all parities; and how long packets are.
 use table::Shape;
 use table::Table;
 ghost use mathlib.Core.Path.{_≡_};
-ghost use Prim.Native.Nat.{_+_, _<_};
+ghost use Prim.Native.Nat.{_+_};
 ghost use Rattle.table.specs.Table.{Within, deskOf};
-ghost use Rattle.encode.specs.Stages.{AllGiven, EncodingGiven, OneGiven, LengthGiven};
-ghost use Rattle.encode.specs.Promise.{EncodedAll, EncodedOne, PacketMeasured, ParitiesMeasured, SurvivorsMeasured};
+ghost use Rattle.encode.specs.Stages.{AllGiven, LengthGiven};
+ghost use Rattle.encode.specs.Promise.{EncodedAll, PacketMeasured, ParitiesMeasured, SurvivorsMeasured};
 
 // A number, and a length in bytes.
 pub struct LengthAnswer {
@@ -38,66 +38,6 @@ pub fn encode_all(k: u64, m: u64, l: u64, table: &[u8], sources: &[u8], out: &mu
     let t = o.table;
     let shifts = t.shifts;
     all_parities(o.shape, &shifts, sources, out)
-}
-
-// 4 and 5, and packet i, from 0, of the sources.
-fn packet_into(
-    s: Shape,
-    shifts: &[u8; Table::CELLS],
-    i: usize,
-    sources: &[u8],
-    out: &mut [u8],
-) -> u64
-    requires { ⌜ Within s (now shifts) ⌝ }
-    requires { ⌜ i < s .k + s .m ⌝ }
-    ensures { λ r. ⌜ EncodingGiven (deskOf s (now (shifts .entry))) i (now (sources .entry)) (now (out .entry)) r (now (out .exit)) ⌝ }
-{
-    let room = table::packets::packet_bytes(s, shifts, i);
-    let number = checks::lengths_number(sources, table::packets::sources_bytes(s), out, room);
-    if number != 0 {
-        return number;
-    }
-    code::encode_packet(s, shifts, i, sources, out);
-    0
-}
-
-// 6, 4 and 5, and the packet of the given number, from 1, of the sources.
-fn one_packet(
-    s: Shape,
-    shifts: &[u8; Table::CELLS],
-    packet: u64,
-    sources: &[u8],
-    out: &mut [u8],
-) -> u64
-    requires { ⌜ Within s (now shifts) ⌝ }
-    ensures { λ r. ⌜ OneGiven (deskOf s (now (shifts .entry))) packet (now (sources .entry)) (now (out .entry)) r (now (out .exit)) ⌝ }
-{
-    let which = checks::one_of((s.k + s.m) as u64, packet);
-    if which != 0 {
-        return which;
-    }
-    packet_into(s, shifts, packet as usize - 1, sources, out)
-}
-
-// The packet of the given number, from 1, of the sources.
-pub fn encode_one(
-    k: u64,
-    m: u64,
-    l: u64,
-    table: &[u8],
-    packet: u64,
-    sources: &[u8],
-    out: &mut [u8],
-) -> u64
-    ensures { λ r. ⌜ EncodedOne k m l (now (table .entry)) packet (now (sources .entry)) (now (out .entry)) r (now (out .exit)) ⌝ }
-{
-    let o = checks::open_shape(k, m, l, table, 0);
-    if o.number != 0 {
-        return o.number;
-    }
-    let t = o.table;
-    let shifts = t.shifts;
-    one_packet(o.shape, &shifts, packet, sources, out)
 }
 
 // A number with no length.

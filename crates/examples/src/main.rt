@@ -272,6 +272,19 @@ fn rebuilt_three(table: &[u8], marks: u64, packets: &[u8]) {
     rebuilt(table, 3, marks, packets, &mut sources);
 }
 
+// The wanted packet, from the packets at hand, into so much room.
+fn made(marks: u64, packets: &[u8], wanted: u64, room: &mut [u8]) {
+    let number = packet::packet(2, 2, 1, &HOUSE, marks, packets, wanted, room);
+    say(b"packet ");
+    say_number(wanted);
+    say(b", marks ");
+    say_number(marks);
+    say(b", packets ");
+    say_bytes(packets);
+    say(b": ");
+    say_answer(number, room);
+}
+
 // The number that a walk gives.
 fn numbered(label: &[u8], l: u64, table: &[u8], marks: u64) {
     let a = walk::walk(2, 2, l, table, marks);
@@ -480,6 +493,18 @@ fn step_lists() {
     checked(&HOUSE, 12, b"\x00", b"");
 }
 
+// Packets of the sources; one that is lost, and one that is at hand; one at hand that is not just copied; and none such.
+fn any_packet() {
+    let mut source = [0u8; 1];
+    let mut parity = [0u8; 2];
+    made(3, b"\x80\xC0", 4, &mut parity);
+    made(3, b"\x80\xC0", 2, &mut source);
+    made(12, b"\x00\x01\x80\x03", 1, &mut source);
+    made(12, b"\x00\x01\x80\x03", 3, &mut parity);
+    made(12, b"\x03\x00\x05\x01", 3, &mut parity);
+    made(3, b"\x80\xC0", 5, &mut parity);
+}
+
 fn other_tables() {
     other_table(b"table (0,7),(0,7): ", b"\x00\x07\x00\x07");
     other_table(b"table (0,8),(0,8): ", b"\x00\x08\x00\x08");
@@ -548,6 +573,7 @@ fn main() {
     families();
     own_lengths();
     step_lists();
+    any_packet();
     other_tables();
     numbers();
     blocks();

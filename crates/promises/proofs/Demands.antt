@@ -3,7 +3,7 @@ use mathlib.Core.Path.{_≡_, refl, sym, ap, _∙_, ap₂, subst}
 use mathlib.Core.Logic.{inl, inr, _⊎_}
 use mathlib.Core.List.{List, _++_, []}
 use mathlib.Core.Bool.{Bool, true}
-use Prim.Native.Nat.{ℕ, _+_, _-_, _*_, _/_, _%_, _≤_, _<_, zero, suc}
+use Prim.Native.Nat.{ℕ, _+_, _-_, _*_, _%_, _≤_, _<_, zero, suc}
 use native.Mathlib.Omega.{arith}
 use native.Mathlib.Decide.{decLt}
 use lib.Dec.{leb}
@@ -14,16 +14,17 @@ use Rattle.bits.specs.Bits.{Bytes, bitAt, joined}
 use Rattle.bits.proofs.ByteLaws.{part-joined, joined-length}
 use Rattle.bits.proofs.SliceLaws.{slice-past}
 use Rattle.table.specs.Desk.{Desk, desk, sourcesBytes, reach, packetBits, packetBytes, paritiesBytes, survivorsBytes, placeOf, Grows, mark}
-use Rattle.table.specs.Checks.{Checks, Checked, theList, sizeChecks, familyNumberChecks, tableChecks, outputChecks, shapeChecks, inputChecks, markedChecks}
+use Rattle.table.specs.Checks.{Checks, Checked, theList, sizeChecks, familyNumberChecks, tableChecks, outputChecks, shapeChecks, inputChecks, marksChecks, markedChecks}
 use Rattle.family.specs.Promise.{familyChecks, FamilyWritten, Judged, judgeChecks}
-use Rattle.table.proofs.CheckLaws.{numbered-by, checked-once, passed, goes, neither, sized, family-in-range, exactly-long, lengths-exact, rest-decides, flag-up, flag-holds, flag-down, flag-low}
+use Rattle.table.proofs.CheckLaws.{numbered-by, checked-once, passed, goes, neither, sized, family-in-range, exactly-long, lengths-exact, rest-decides}
+use Rattle.table.proofs.CheckLaws.{flag-up, flag-holds, flag-down, flag-low}
 use Rattle.table.proofs.ListLaws.{listed-by, number-in-order, listed-one-way}
 use Rattle.family.proofs.FamilyTables.{family-grows, family-low, hankel-table-largest}
 use Rattle.table.proofs.ShapeLaws.{shaped, marked-parts, marked-count}
 use Rattle.table.proofs.PacketLaws.{source-full, source-bytes-low, within-reach, reach-is-an-entry, source-packet-bits, source-packet-bytes, parity-packet-bits, parity-packet-bytes}
 use Rattle.code.specs.Code.{parity, sourcesOf, packetOf, packetsOf}
 use Rattle.encode.specs.Stages.{allChecks}
-use Rattle.encode.specs.Promise.{encodeChecks, EncodedAll, encodeOneChecks, packetLengthChecks}
+use Rattle.encode.specs.Promise.{encodeChecks, EncodedAll, packetLengthChecks}
 use Rattle.code.proofs.CodeLaws.{desk-short, by-kind, packet-size, packet-source-bits, packet-parity-bits, packet-ignores-present, sum-past}
 use Rattle.walk.specs.Walk.{Whole, Next, none, one}
 use Rattle.walk.proofs.Runs.{same-end, run-split}
@@ -40,7 +41,8 @@ use Rattle.rebuild.specs.Stages.{decodeChecks}
 use Rattle.rebuild.specs.Promise.{rebuildChecks, Rebuilt}
 use Rattle.survivors.proofs.CameLaws.{encodes-bits, encoded-not-stray}
 use Rattle.rebuild.proofs.OneAnswer.{one-source, rebuilt-shaped}
-use Rattle.repair.specs.Promise.{repairChecks}
+use Rattle.packet.specs.Promise.{wantedChecks}
+use Rattle.packet.proofs.CheckParts.{decoding-decides}
 use Rattle.look.specs.Promise.{lookChecks}
 use Rattle.card.specs.Block.{blockChecks}
 use Rattle.line.specs.Promise.{sheetChecks}
@@ -51,6 +53,7 @@ use Rattle.chain.proofs.RunLaws as RunLaws
 use Rattle.chain.proofs.CutLaws as CutLaws
 use Rattle.chain.proofs.RunAnswers.{decided-at-a-block, run-taken, run-given, written-is-read}
 use Rattle.promises.proofs.OneAnswer.{one-judge}
+use Rattle.promises.proofs.AnyPacket.{packet-is-what-encode-one-gave}
 use Rattle.promises.specs.Demands
 use Rattle.promises.specs.Demands.{parityIn, written, atHand, everyBit, shapeAndLengths, OnePastTheRow, StandsLower, ComesFrom}
 
@@ -65,12 +68,11 @@ calls-listed = record {
   parities-length = λ k m l table number bytes x. (x .numbered, refl, listed-by (shapeChecks k m l table) refl);
   survivors-length = λ k m l table marks number bytes x. (x .numbered, refl, listed-by (markedChecks k m l table marks) refl);
   encode-all = λ k m l table sources before number after x. (x .numbered, refl, listed-by (encodeChecks k m l table sources before) refl);
-  encode-one = λ k m l table packet sources before number after x. (x .numbered, refl, listed-by (encodeOneChecks k m l table packet sources before) refl);
   walk = λ k m l table marks number count whole progress x. (x .numbered, refl, listed-by (markedChecks k m l table marks) refl);
   step = λ k m l table marks progress number parity source after x. (x .numbered, refl, listed-by (stepChecks k m l table marks progress) refl);
   check-steps = λ k m l table marks parities sources number place x. (x .numbered, refl, listed-by (stepListChecks k m l table marks parities sources) refl);
   rebuild = λ k m l table marks packets before number count after x. (x .numbered, refl, listed-by (rebuildChecks k m l table marks packets before) refl);
-  repair = λ k m l table marks packets packet before number after x. (x .numbered, refl, listed-by (repairChecks k m l table marks packets packet before) refl);
+  packet = λ k m l table marks packets wanted before number after x. (x .numbered, refl, listed-by (wantedChecks k m l table marks packets wanted before) refl);
   look = λ k m l table marks source survivors rebuilt number buffer start bytes x. (x .numbered, refl, listed-by (lookChecks k m l table marks source survivors rebuilt) refl);
   block = λ bytes before number count sequence more after x. (x .numbered, refl, listed-by (blockChecks bytes (length before)) refl);
   read-blocks = λ run before number count after x.
@@ -95,14 +97,11 @@ family-keeps k m family before number after x = x .refused
 pub encode-all-keeps : Demands.EncodeAllKeeps
 encode-all-keeps k m l table sources before number after x = x .refused
 
-pub encode-one-keeps : Demands.EncodeOneKeeps
-encode-one-keeps k m l table packet sources before number after x = x .refused
-
 pub rebuild-keeps : Demands.RebuildKeeps
 rebuild-keeps k m l table marks packets before number count after x refuses = x .refused refuses .0
 
-pub repair-keeps : Demands.RepairKeeps
-repair-keeps k m l table marks packets packet before number after x = x .refused
+pub packet-keeps : Demands.PacketKeeps
+packet-keeps k m l table marks packets wanted before number after x = x .refused
 
 pub block-keeps : Demands.BlockKeeps
 block-keeps block before number count sequence more after x refuses = x .refused refuses .3
@@ -186,16 +185,18 @@ five-is-for-another-length k m l table bytes x sources before number after y lon
     asked e same (inr (_, inr c)) = omega (arith, c .1)
 
 pub one-parity-is-the-sum : Demands.OneParityIsTheSum
-one-parity-is-the-sum k m l table sources before after a la x q =
+one-parity-is-the-sum k m l table marks sources before after a S are-bytes la x q =
     let D = desk k m l table 0 in
     let e : k + a + 1 - 1 ≡ k + a = omega arith in
-    ap (λ xs. bitAt xs q) (x .done refl ∙ ap (packetOf D sources) e) ∙ packet-parity-bits D sources (desk-short k m l table 0 sources) a q la
+    let gave = packet-is-what-encode-one-gave k m l table marks sources (k + a + 1) before 0 after S are-bytes .0 x in
+    ap (λ xs. bitAt xs q) (gave .done refl ∙ ap (packetOf D sources) e) ∙ packet-parity-bits D sources (desk-short k m l table 0 sources) a q la
 
 pub one-source-is-the-source : Demands.OneSourceIsTheSource
-one-source-is-the-source k m l table sources before after c lc x q =
+one-source-is-the-source k m l table marks sources before after c S are-bytes lc x q =
     let D = desk k m l table 0 in
     let e : c + 1 - 1 ≡ c = omega arith in
-    ap (λ xs. bitAt xs q) (x .done refl ∙ ap (packetOf D sources) e) ∙ packet-source-bits D sources c q lc
+    let gave = packet-is-what-encode-one-gave k m l table marks sources (c + 1) before 0 after S are-bytes .0 x in
+    ap (λ xs. bitAt xs q) (gave .done refl ∙ ap (packetOf D sources) e) ∙ packet-source-bits D sources c q lc
 
 -- D2.2
 -- the judge's yes, for any length and marks
@@ -257,11 +258,31 @@ rebuild-gives-the-sources = rebuilt-encodes
 pub rebuild-gives-the-only-sources : Demands.RebuildGivesTheOnlySources
 rebuild-gives-the-only-sources = rebuilt-only
 
-pub repair-gives-the-packet : Demands.RepairGivesThePacket
-repair-gives-the-packet k m l table marks packets before packet after room count sources x y =
+pub packet-is-of-the-rebuilt-sources : Demands.PacketIsOfTheRebuiltSources
+packet-is-of-the-rebuilt-sources k m l table marks packets before wanted after room count sources x y =
     let found = x .done refl in
     let same : found .0 ≡ sources = rebuilt-only k m l table marks packets room count sources y (found .0) (found .1) in
-    found .2 ∙ ap (λ (v : List ℕ). packetOf (desk k m l table marks) v (packet - 1)) same
+    found .2 ∙ ap (λ (v : List ℕ). packetOf (desk k m l table marks) v (wanted - 1)) same
+
+module _ (k m l : ℕ) (table : List ℕ) (marks : ℕ) (packets sources : List ℕ) (encodes : EncodesTo (desk k m l table marks) packets sources) where
+  abbrev H : Desk
+  H = desk k m l table marks
+
+  -- packets that sources encode to have their length,
+  encoded-long : length packets ≡ survivorsBytes H
+  unfolding packetsOf placeOf
+  encoded-long = ap length (encodes .same) ∙ joined-length (mark marks) (packetOf H sources) (packetBytes H) (packet-size H sources (encodes .size)) (k + m)
+
+  -- and where some order finishes none of 8, 9 and 10 is given
+  encoded-decodes : (((n : ℕ) → Finishes H n → ⊥) → ⊥) → Checked (decodeChecks H packets) 0
+  encoded-decodes finishes = inr (finishes, inr (encoded-not-stray H packets sources (desk-short k m l table marks sources) encodes, inr ((λ n. n sources encodes), refl)))
+
+-- where differences grow, some order finishes
+growing-finishes : (k m l : ℕ) (table : List ℕ) (marks : ℕ) → Judged k m table 0 1 → Checked (markedChecks k m l table marks) 0 → (n : ℕ) × Finishes (desk k m l table marks) n
+growing-finishes k m l table marks yes-said accepted =
+    let G = desk k m l table marks in
+    let e = some-end G in
+    (e .0, ended-finishes G (e .0) (e .1) (growing-ended k m l table marks yes-said accepted (e .0) (e .1) .0))
 
 -- where some order finishes, rebuild gives the sources that encode to the packets, and its count is that of an order that finishes
 pub finishing-gives-the-sources : (k m l : ℕ) (table : List ℕ) (marks : ℕ) (packets before sources : List ℕ) (number count : ℕ) (after : List ℕ)
@@ -272,20 +293,13 @@ pub finishing-gives-the-sources : (k m l : ℕ) (table : List ℕ) (marks : ℕ)
     → (((n : ℕ) → Finishes D n → ⊥) → ⊥)
     → Rebuilt k m l table marks packets before number count after
     → (number ≡ 0) × (after ≡ sources) × Finishes D count
-unfolding packetsOf placeOf
 finishing-gives-the-sources k m l table marks packets before sources number count after accepted encodes room finishes x =
     (zero-number, sym (rebuilt-only k m l table marks packets before count after done sources encodes), rebuilt-finishes k m l table marks packets before count after done)
   where
-    G : Desk
-    G = desk k m l table marks
-
-    long : length packets ≡ survivorsBytes G
-    long = ap length (encodes .same) ∙ joined-length (mark marks) (packetOf G sources) (packetBytes G) (packet-size G sources (encodes .size)) (k + m)
-
     taken : Checked (rebuildChecks k m l table marks packets before) 0
     taken =
-        let c = front-accepted k m l table marks packets before accepted long room in
-        numbered k m l table marks packets before c 0 (inr (finishes, inr (encoded-not-stray G packets sources (desk-short k m l table marks sources) encodes, inr ((λ n. n sources encodes), refl))))
+        let c = front-accepted k m l table marks packets before accepted (encoded-long k m l table marks packets sources encodes) room in
+        numbered k m l table marks packets before c 0 (encoded-decodes k m l table marks packets sources encodes finishes)
 
     zero-number : number ≡ 0
     zero-number = checked-once (rebuildChecks k m l table marks packets before) number 0 (x .numbered) taken
@@ -297,14 +311,40 @@ pub survivors-give-the-sources : Demands.SurvivorsGiveTheSources
 survivors-give-the-sources k m l table marks packets before sources are-bytes size same room yes-said accepted number count after x =
     let G = desk k m l table marks in
     let encodes : EncodesTo G packets sources = record { size = size; are-bytes = are-bytes; same = same } in
-    let given = finishing-gives-the-sources k m l table marks packets before sources number count after accepted encodes room finishes x in
+    let F = growing-finishes k m l table marks yes-said accepted in
+    let given = finishing-gives-the-sources k m l table marks packets before sources number count after accepted encodes room (λ never. never (F .0) (F .1)) x in
     (given .0, given .1, growing-ended k m l table marks yes-said accepted count (finishes-ends G count (given .2)) .1)
+
+pub any-packet-from-any-k : Demands.AnyPacketFromAnyK
+any-packet-from-any-k k m l table marks packets sources encodes yes-said accepted i li before room number after x = (zero-number, given)
   where
-    finishes : ((n : ℕ) → Finishes (desk k m l table marks) n → ⊥) → ⊥
-    finishes never =
-        let G = desk k m l table marks in
-        let e = some-end G in
-        never (e .0) (ended-finishes G (e .0) (e .1) (growing-ended k m l table marks yes-said accepted (e .0) (e .1) .0))
+    G : Desk
+    G = desk k m l table marks
+
+    next : i + 1 - 1 ≡ i
+    next = omega arith
+
+    F : (n : ℕ) × Finishes G n
+    F = growing-finishes k m l table marks yes-said accepted
+
+    parts : Checked (shapeChecks k m l table) 0 × Checked (marksChecks k m marks) 0
+    parts = marked-parts k m l table marks accepted
+
+    taken : Checked (wantedChecks k m l table marks packets (i + 1) before) 0
+    taken =
+        let long = encoded-long k m l table marks packets sources encodes in
+        let decodes = encoded-decodes k m l table marks packets sources encodes (λ never. never (F .0) (F .1)) in
+        decoding-decides k m l table marks packets (i + 1) before (parts .0) (parts .1) (omega arith) (omega arith) long (room ∙ ap (packetBytes G) (sym next)) 0 decodes
+
+    zero-number : number ≡ 0
+    zero-number = checked-once (wantedChecks k m l table marks packets (i + 1) before) number 0 (x .numbered) taken
+
+    given : after ≡ packetOf G sources i
+    given =
+        let found = x .done zero-number in
+        let some = source-bytes-low l (shaped k m l table (parts .0) .l-low) in
+        let one = one-source G some (desk-short k m l table marks) packets (F .0) (F .1) (found .0) sources (found .1) encodes in
+        found .2 ∙ ap₂ (packetOf G) one next
 
 -- the same lists, one after another
 joined-same : (on : ℕ → Bool) (f g : ℕ → List ℕ) (n : ℕ) → ((i : ℕ) → i < n → f i ≡ g i) → joined on f n ≡ joined on g n
@@ -347,6 +387,12 @@ pub encode-lose-rebuild : Demands.EncodeLoseRebuild
 encode-lose-rebuild k m l table sources parities room are-bytes x yes-said marks accepted before long =
     let E = at-hand-encodes k m l table sources parities room are-bytes x marks in
     survivors-give-the-sources k m l table marks (atHand k m l table sources parities marks) before sources are-bytes (E .size) (E .same) long yes-said accepted
+
+pub encode-lose-make : Demands.EncodeLoseMake
+encode-lose-make k m l table sources parities room are-bytes x yes-said marks accepted i li before long number after y =
+    let E = at-hand-encodes k m l table sources parities room are-bytes x marks in
+    let made = any-packet-from-any-k k m l table marks (atHand k m l table sources parities marks) sources E yes-said accepted i li before long number after y in
+    (made .0, made .1 ∙ sym (written-packet k m l table sources parities room x i li ∙ packet-ignores-present (desk k m l table 0) (mark marks) sources i))
 
 -- D2.3
 pub refuses-exactly : Demands.RefusesExactly

@@ -4,7 +4,6 @@ use mathlib.Core.Bool.{true}
 use mathlib.Core.List.{List, [], _∷_, _++_}
 use Prim.Native.Nat.{ℕ, _+_, _-_, _*_}
 use native.Mathlib.Omega.{arith}
-use lib.Dec.{leb}
 use lib.ListN.{length}
 use Rattle.bits.specs.Sums.{oneAt, sum, allB, lowest}
 use Rattle.bits.specs.Bits.{bit, bitAt, up, fromBits, bytesOf, joined}
@@ -26,8 +25,9 @@ use Rattle.survivors.specs.Packets.{cameParity}
 use Rattle.card.proofs.Examples.{two-bytes-taken, two-bytes-next-taken, no-bytes-taken, first-of-two-taken}
 use Rattle.chain.proofs.Examples.{run-read, packet-written, byte-by-byte-written, empty-written}
 use Rattle.chain.proofs.Examples.{first-alone-refused, second-first-refused, byte-behind-refused, empty-refused, byte-after-more-refused}
-use Rattle.promises.specs.Examples.{Example, family, largest, judge, packet-length, parities-length, encode, walk, check-steps, rebuild, block, read, write}
-use Rattle.promises.specs.Examples.{Met, Name, example, examples, AllMet, ExamplesMet}
+use Rattle.promises.specs.Examples.{Example, family, largest, judge, packet-length, parities-length, encode, walk, check-steps, rebuild, make, block, read, write}
+use Rattle.promises.specs.Examples.{house, Met, Name, example, examples, AllMet, ExamplesMet}
+use Rattle.promises.proofs.PacketAnswers.{PacketOutcome, none-such, refuses, makes, packet-outcome-meets}
 use Rattle.promises.proofs.RebuildAnswers.{bytesB, tidyB, Outcome, stalls, strays, differs, reads, outcome-meets}
 
 -- what is computed of an example; of blocks nothing here
@@ -54,6 +54,7 @@ Computed (rebuild k m l table marks packets before number count after) =
     × (length packets ≡ survivorsBytes D)
     × (length before ≡ sourcesBytes D)
     × Outcome D packets before number count after
+Computed (make k m l table marks packets wanted before number after) = PacketOutcome k m l table marks packets wanted before number after
 Computed (block bytes before count sequence more after) = Met (block bytes before count sequence more after)
 Computed (read run before number count after) = Met (read run before number count after)
 Computed (write packet size before count after) = Met (write packet size before count after)
@@ -104,6 +105,7 @@ met (check-steps k m l table marks parities sources number place) c =
     subst (λ (r : ℕ × ℕ). StepsChecked k m l table marks parities sources (r .0) (r .1)) (c .1) (checked-meets k m l table marks parities sources accepted)
 met (rebuild k m l table marks packets before number count after) c =
     outcome-meets k m l table marks packets before (record { taken = c .0; input = c .1; output = c .2 }) (c .3)
+met (make k m l table marks packets wanted before number after) c = packet-outcome-meets k m l table marks packets wanted before c
 met (block bytes before count sequence more after) c = c
 met (read run before number count after) c = c
 met (write packet size before count after) c = c
@@ -128,6 +130,22 @@ coding = tt
 reading : Unit {0}
 unfolding bytesB tidyB readAlong put cameParity
 reading = tt
+
+-- what is computed of rebuild where packet follows it: with the sources themselves, from both parities, and where no sources encode to these
+abbrev rebuilt-sources : Example
+rebuilt-sources = rebuild 2 2 1 house 3 (0x80 ∷ 0xC0 ∷ []) (9 ∷ 9 ∷ []) 0 0 (0x80 ∷ 0xC0 ∷ [])
+
+from-sources : Computed rebuilt-sources
+unfolding accepting walking coding reading
+from-sources = (refl, refl, refl, reads refl refl refl refl)
+
+from-high-bits : Computed (example Name.rebuild-high-bits)
+unfolding accepting walking coding reading
+from-high-bits = (refl, refl, refl, reads refl refl refl refl)
+
+from-no-sources : Computed (example Name.rebuild-no-sources)
+unfolding accepting walking coding reading
+from-no-sources = (refl, refl, refl, differs refl refl 1 8 (omega arith) refl refl)
 
 computed : (n : Name) → Computed (example n)
 unfolding accepting walking following coding reading
@@ -168,13 +186,19 @@ computed Name.steps-unequal = (refl, refl)
 computed Name.rebuild-both-parities = (refl, refl, refl, reads refl refl refl refl)
 computed Name.rebuild-one-parity = (refl, refl, refl, reads refl refl refl refl)
 computed Name.rebuild-no-parity = (refl, refl, refl, reads refl refl refl refl)
-computed Name.rebuild-high-bits = (refl, refl, refl, reads refl refl refl refl)
+computed Name.rebuild-high-bits = from-high-bits
 computed Name.rebuild-one-above = (refl, refl, refl, strays refl (3, omega arith, refl, (10, omega arith, refl)))
 computed Name.rebuild-past-the-row = (refl, refl, refl, strays refl (2, omega arith, refl, (9, omega arith, refl)))
-computed Name.rebuild-no-sources = (refl, refl, refl, differs refl refl 1 8 (omega arith) refl refl)
+computed Name.rebuild-no-sources = from-no-sources
 computed Name.rebuild-seven = (refl, refl, refl, stalls refl)
 computed Name.rebuild-eight = (refl, refl, refl, reads refl refl refl refl)
 computed Name.rebuild-stuck = (refl, refl, refl, stalls refl)
+computed Name.packet-parity-of-sources = makes (met rebuilt-sources from-sources) (omega arith) (omega arith) refl refl
+computed Name.packet-source-of-sources = makes (met rebuilt-sources from-sources) (omega arith) (omega arith) refl refl
+computed Name.packet-lost = makes (met (example Name.rebuild-high-bits) from-high-bits) (omega arith) (omega arith) refl refl
+computed Name.packet-at-hand = makes (met (example Name.rebuild-high-bits) from-high-bits) (omega arith) (omega arith) refl refl
+computed Name.packet-no-sources = refuses (met (example Name.rebuild-no-sources) from-no-sources) (omega arith) (omega arith) (omega arith) refl
+computed Name.packet-none-such = none-such refl (omega arith)
 computed Name.block-two-bytes = two-bytes-taken
 computed Name.block-two-bytes-next = two-bytes-next-taken
 computed Name.block-no-bytes = no-bytes-taken

@@ -1,7 +1,9 @@
 pub mod OneAnswer
+pub mod AnyPacket
 pub mod Demands
 pub mod Stepping
 pub mod StepLists
 pub mod RebuildAnswers
+pub mod PacketAnswers
 pub mod Examples
 pub mod RuledOut

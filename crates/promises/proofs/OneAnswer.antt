@@ -27,7 +27,7 @@ pub one-encode-all : (k m l : ℕ) (table sources before : List ℕ) {n n′ : �
     → (n ≡ n′) × (after ≡ after′)
 one-encode-all k m l table sources before {n} {n′} {after} {after′} x y = answers-agree (encodeChecks k m l table sources before) n n′ {P = after ≡ after′} same same x y
 
--- two answers of encode one
+-- two answers of encode one, while it was a call
 pub one-encode-one : (k m l : ℕ) (table : List ℕ) (packet : ℕ) (sources before : List ℕ) {n n′ : ℕ} {after after′ : List ℕ}
     → EncodedOne k m l table packet sources before n after
     → EncodedOne k m l table packet sources before n′ after′

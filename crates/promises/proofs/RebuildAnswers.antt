@@ -42,7 +42,7 @@ unfoldable pub bytesB : List ℕ → Bool
 bytesB [] = true
 bytesB (x ∷ xs) = ltb x 256 && bytesB xs
 
-bytes-told : (xs : List ℕ) → bytesB xs ≡ true → Bytes xs
+pub bytes-told : (xs : List ℕ) → bytesB xs ≡ true → Bytes xs
 unfolding bytesB
 bytes-told [] e i = lit< tt
 bytes-told (x ∷ xs) e zero = ltb-true x 256 (and-eq-true-iff (ltb x 256) (bytesB xs) .0 e .0)

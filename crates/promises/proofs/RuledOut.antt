@@ -2,21 +2,17 @@
 use mathlib.Core.Path.{_≡_, refl, ap}
 use mathlib.Core.Logic.{inl, inr}
 use mathlib.Core.List.{List, [], _∷_, _++_}
-use Prim.Native.Nat.{ℕ, _+_, _-_, _%_, _≤_}
+use Prim.Native.Nat.{ℕ, _%_, _≤_}
 use native.Mathlib.Omega.{arith}
 use lib.ListN.{replicate, take}
 use Rattle.bits.specs.Sums.{at, sum}
-use Rattle.bits.specs.Bits.{bit, bitAt, up, fromBits, bytesOf}
 use Rattle.table.specs.Limits.{noughts}
-use Rattle.table.specs.Desk.{Desk, Grows, desk, entry, most, reach, packetBits, packetBytes, placeOf, survivorsBytes}
-use Rattle.table.specs.Checks.{Checked, sizeChecks, familyNumberChecks, shapeChecks, markedChecks, numberChecks, marksChecks, askedChecks, inputChecks, outputChecks}
-use Rattle.table.proofs.CheckLaws.{numbered-by, passed, checked-once, goes, below-by, from-later, inside, exactly-long, asked-goes}
-use Rattle.table.proofs.ShapeLaws.{marked-parts}
-use Rattle.table.proofs.Taken.{lowB, insideB, sizeB, tableB, shapeB, size-taken, shape-taken}
+use Rattle.table.specs.Desk.{Grows, desk, entry, most, reach, packetBits, packetBytes, placeOf}
+use Rattle.table.specs.Checks.{Checked, sizeChecks, familyNumberChecks, shapeChecks, markedChecks, numberChecks, marksChecks, outputChecks}
+use Rattle.table.proofs.CheckLaws.{numbered-by, passed, checked-once, goes, below-by, from-later, asked-parts}
+use Rattle.table.proofs.Taken.{lowB, insideB, sizeB, tableB, shapeB, size-taken}
 use Rattle.family.specs.Promise.{familyChecks, FamilyWritten, Judged}
-use Rattle.code.specs.Code.{sumOf, sourcesOf, packetOf}
-use Rattle.encode.specs.Stages.{lendChecks}
-use Rattle.encode.specs.Promise.{EncodedAll, EncodedOne, encodeOneChecks, PacketMeasured, ParitiesMeasured, SurvivorsMeasured}
+use Rattle.encode.specs.Promise.{EncodedAll, PacketMeasured, ParitiesMeasured, SurvivorsMeasured}
 use Rattle.walk.specs.Walk.{Next, none, one}
 use Rattle.walk.specs.Promise.{Stepped, Walked}
 use Rattle.walk.proofs.OneAnswer.{one-walk}
@@ -25,13 +21,17 @@ use Rattle.steps.proofs.OneAnswer.{one-checked}
 use Rattle.rebuild.specs.Stages.{decodeChecks, rebuildLengthsChecks, rebuildLentChecks}
 use Rattle.rebuild.specs.Promise.{Rebuilt}
 use Rattle.rebuild.proofs.OneAnswer.{one-rebuilt}
-use Rattle.repair.specs.Stages.{repairLengthsChecks, repairLentChecks, repairNamedChecks}
-use Rattle.repair.specs.Promise.{Repaired, repairChecks}
+use Rattle.packet.specs.Promise.{PacketMade}
+use Rattle.packet.proofs.CheckParts.{made-parts}
+use Rattle.packet.proofs.OneAnswer.{one-packet-made}
 use Rattle.promises.proofs.OneAnswer.{one-family, one-judge, one-packet-length, one-parities-length, one-encode-all}
-use Rattle.promises.proofs.Demands.{five-is-for-another-length, repair-gives-the-packet}
+use Rattle.promises.proofs.AnyPacket.{marks-of-the-sources, numbers-from-the-sources}
+use Rattle.promises.proofs.Demands.{five-is-for-another-length}
 use Rattle.promises.specs.StepLists.{last, more}
 use Rattle.promises.proofs.Stepping.{stepping-is-the-walk}
 use Rattle.promises.specs.Examples.{Name, house, house3, hankelTall, uneven, seven, eight, steppedSources, ownParities, otherParities, five, nine, twelve}
+use Rattle.promises.proofs.RebuildAnswers.{bytesB, bytes-told}
+use Rattle.promises.proofs.PacketAnswers.{none-such, packet-outcome-meets}
 use Rattle.promises.proofs.Examples.{example-met}
 
 -- ---- the buffers and packets of the examples
@@ -52,6 +52,13 @@ stray = 0x03 ∷ 0x00 ∷ 0x05 ∷ 0x04 ∷ []
 
 abbrev foreign : List ℕ
 foreign = 0x03 ∷ 0x00 ∷ 0x05 ∷ 0x01 ∷ []
+
+-- the sources 80 C0, and both their parities
+abbrev ownSources : List ℕ
+ownSources = 0x80 ∷ 0xC0 ∷ []
+
+abbrev highBits : List ℕ
+highBits = 0x00 ∷ 0x01 ∷ 0x80 ∷ 0x03 ∷ []
 
 -- ---- family table
 
@@ -112,14 +119,10 @@ no-judge-always-no x = let e = one-judge 2 2 house x (example-met Name.judge-hou
 
 -- ---- packet length, parities' length and survivors' length
 
--- what lengths and packets compute with
+-- what lengths compute with
 measuring : Unit {0}
 unfolding entry most reach packetBits packetBytes placeOf sum
 measuring = tt
-
-coding : Unit {0}
-unfolding measuring sumOf sourcesOf packetOf bit bitAt up fromBits bytesOf
-coding = tt
 
 -- a parity as long as a source
 pub no-parity-as-long-as-a-source : PacketMeasured 2 2 1 house 3 0 1 → ⊥
@@ -181,7 +184,12 @@ no-rebuild-of-cut-marks x =
     let cs = markedChecks 2 2 1 house 0x1000C in
     no-marks-cut (passed cs (rebuildLentChecks (desk 2 2 1 house 0x1000C) parities two) (numbered-by cs refl) (x .numbered) .0)
 
--- ---- encode all and encode one
+pub no-packet-of-cut-marks : {wanted : ℕ} {before after : List ℕ} → PacketMade 2 2 1 house 0x1000C highBits wanted before 0 after → ⊥
+no-packet-of-cut-marks {wanted} {before} x =
+    let asked = made-parts 2 2 1 house 0x1000C highBits wanted before (x .numbered) .1 in
+    cut-marks-refused (asked-parts 2 2 0x1000C 4 wanted asked .0)
+
+-- ---- encode all
 
 -- an encoder that writes nothing
 pub no-silent-encoder : EncodedAll 2 2 1 house (1 ∷ 1 ∷ []) four 0 four → ⊥
@@ -205,21 +213,6 @@ pub no-five-bytes-refused : {after : List ℕ} → EncodedAll 2 2 1 uneven (1 �
 no-five-bytes-refused x =
     let e = one-encode-all 2 2 1 uneven (1 ∷ 1 ∷ []) five x (example-met Name.encode-uneven-ones) in
     omega (arith, e .0)
-
--- 4 checked before 6: packet 99 of sources of a wrong length
-pub no-four-before-six : {after : List ℕ} → EncodedOne 2 2 1 house 99 [] two 4 after → ⊥
-unfolding shapeB sizeB insideB tableB lowB
-no-four-before-six x = omega (arith, checked-once (encodeOneChecks 2 2 1 house 99 [] two) 4 6 (x .numbered) six)
-  where
-    six : Checked (encodeOneChecks 2 2 1 house 99 [] two) 6
-    six =
-        goes (shapeChecks 2 2 1 house) (numberChecks 4 99 ++ lendChecks (desk 2 2 1 house 0) 98 [] two) 6 (numbered-by (shapeChecks 2 2 1 house) refl) (shape-taken 2 2 1 house refl)
-        (inl (inr (omega arith), refl))
-
--- packets counted from 0: parity 2 for packet 3
-pub no-next-packet-for-this : EncodedOne 2 2 1 house 3 (1 ∷ 1 ∷ []) two 0 (0x05 ∷ 0x00 ∷ []) → ⊥
-unfolding coding
-no-next-packet-for-this x = omega (arith, ap (λ l. at l 0) (x .done refl))
 
 -- ---- walk and next step
 
@@ -352,9 +345,9 @@ no-rebuild-of-zeros {number} {count} x =
     omega (arith, ap (λ l. at l 0) (e .2))
 
 -- one that takes the lowest set bit for the lowest unknown bit: it reads a one first
-pub no-lowest-set-bit : {number count : ℕ} {after : List ℕ} → at after 0 % 2 ≡ 1 → Rebuilt 2 2 1 house 12 (0x00 ∷ 0x01 ∷ 0x80 ∷ 0x03 ∷ []) two number count after → ⊥
+pub no-lowest-set-bit : {number count : ℕ} {after : List ℕ} → at after 0 % 2 ≡ 1 → Rebuilt 2 2 1 house 12 highBits two number count after → ⊥
 no-lowest-set-bit {number} {count} {after} odd x =
-    let e = one-rebuilt 2 2 1 house 12 (0x00 ∷ 0x01 ∷ 0x80 ∷ 0x03 ∷ []) two number count after 0 16 (0x80 ∷ 0xC0 ∷ []) x (example-met Name.rebuild-high-bits) in
+    let e = one-rebuilt 2 2 1 house 12 highBits two number count after 0 16 (0x80 ∷ 0xC0 ∷ []) x (example-met Name.rebuild-high-bits) in
     omega (arith, odd, ap (λ l. at l 0) (e .2))
 
 -- one that reads a bit without its shift: parity 2 has source 2 two bits up, and source 1 taken out leaves 04
@@ -404,66 +397,64 @@ no-output-of-a-refused-rebuild {number} {count} x =
     let e = one-rebuilt 2 2 1 house 12 foreign two number count (0x01 ∷ 0x01 ∷ []) 10 0 two x (example-met Name.rebuild-no-sources) in
     omega (arith, ap (λ l. at l 0) (e .2))
 
--- ---- repair
+-- ---- packet
 
--- a repair that refuses all
-pub no-repair-refuses-all : {number : ℕ} {after : List ℕ} → (number ≡ 0 → ⊥) → Repaired 2 2 1 house 12 parities 1 (9 ∷ []) number after → ⊥
-unfolding measuring
-no-repair-refuses-all {number} n x = n (checked-once (repairChecks 2 2 1 house 12 parities 1 (9 ∷ [])) number 0 (x .numbered) taken)
-  where
-    D : Desk
-    D = desk 2 2 1 house 12
+-- a call that refuses all
+pub no-packet-refuses-all : {number : ℕ} {after : List ℕ} → (number ≡ 0 → ⊥) → PacketMade 2 2 1 house 12 highBits 1 (9 ∷ []) number after → ⊥
+no-packet-refuses-all {number} {after} n x =
+    let e = one-packet-made 2 2 1 house 12 highBits 1 (9 ∷ []) number after 0 (0x80 ∷ []) x (example-met Name.packet-lost) in
+    n (e .0)
 
-    -- rebuild takes the same packets
-    rebuilt : Checked (markedChecks 2 2 1 house 12) 0 × Checked (rebuildLentChecks D parities two) 0
-    rebuilt = passed (markedChecks 2 2 1 house 12) (rebuildLentChecks D parities two) (numbered-by (markedChecks 2 2 1 house 12) refl) (example-met Name.rebuild-both-parities .numbered)
+-- one that refuses a wanted packet because it is at hand
+pub no-packet-at-hand-refused : {number : ℕ} {after : List ℕ} → (number ≡ 0 → ⊥) → PacketMade 2 2 1 house 12 highBits 3 two number after → ⊥
+no-packet-at-hand-refused {number} {after} n x =
+    let e = one-packet-made 2 2 1 house 12 highBits 3 two number after 0 (0x00 ∷ 0x01 ∷ []) x (example-met Name.packet-at-hand) in
+    n (e .0)
 
-    decoded : Checked (decodeChecks D parities) 0
-    decoded = passed (rebuildLengthsChecks D parities two) (decodeChecks D parities) (numbered-by (rebuildLengthsChecks D parities two) refl) (rebuilt .1) .1
+-- one that gives 8 although no source is missing: with both parities at hand this table stalls
+pub no-stall-with-the-sources : {wanted : ℕ} {before after : List ℕ} → PacketMade 2 2 1 seven 3 ownSources wanted before 8 after → ⊥
+unfolding bytesB
+no-stall-with-the-sources {wanted} {before} {after} x =
+    omega (arith, numbers-from-the-sources 2 2 1 seven 3 ownSources wanted before 8 after (marks-of-the-sources 2) (bytes-told ownSources refl) x .0)
 
-    lengths : Checked (repairLengthsChecks D parities 0 (9 ∷ [])) 0
-    lengths =
-        let input = inputChecks (survivorsBytes D) parities in
-        goes input (outputChecks (packetBytes D 0) (9 ∷ [])) 0 (numbered-by input refl) (exactly-long 4 (survivorsBytes D) parities refl) (exactly-long 5 (packetBytes D 0) (9 ∷ []) refl)
+-- packets counted from 0: parity 2 for packet 3
+pub no-packet-from-nought : PacketMade 2 2 1 house 12 highBits 3 two 0 (0x80 ∷ 0x03 ∷ []) → ⊥
+no-packet-from-nought x =
+    let e = one-packet-made 2 2 1 house 12 highBits 3 two 0 (0x80 ∷ 0x03 ∷ []) 0 (0x00 ∷ 0x01 ∷ []) x (example-met Name.packet-at-hand) in
+    omega (arith, ap (λ l. at l 0) (e .1))
 
-    taken : Checked (repairChecks 2 2 1 house 12 parities 1 (9 ∷ [])) 0
-    taken =
-        let shape = shapeChecks 2 2 1 house in
-        let asked = askedChecks 2 2 12 4 1 in
-        let sizes = repairLengthsChecks D parities 0 (9 ∷ []) in
-        let p = marked-parts 2 2 1 house 12 (rebuilt .0) in
-        let lent = goes sizes (decodeChecks D parities) 0 (numbered-by sizes refl) lengths decoded in
-        let named = goes asked (repairLentChecks D parities 0 (9 ∷ [])) 0 (numbered-by asked refl) (asked-goes 2 2 12 4 1 0 (inr (inside (omega arith) (omega arith), refl)) (p .1)) lent in
-        goes shape (repairNamedChecks D parities 12 1 (9 ∷ [])) 0 (numbered-by shape refl) (p .0) named
+-- 4 checked before 6: packet 99 of sources of a wrong length
+pub no-four-before-six : {after : List ℕ} → PacketMade 2 2 1 house 3 [] 99 two 4 after → ⊥
+unfolding shapeB sizeB insideB tableB lowB
+no-four-before-six {after} x =
+    let e = one-packet-made 2 2 1 house 3 [] 99 two 4 after 6 two x (packet-outcome-meets 2 2 1 house 3 [] 99 two (none-such refl (omega arith))) in
+    omega (arith, e .0)
 
 -- 8 skipped, 9 skipped, 10 skipped: a packet is given although the walk stalls, a packet has a one above its last bit, no sources encode to the packets
-module _ (table packets : List ℕ) (packet : ℕ) (before after : List ℕ) (x : Repaired 2 2 1 table 12 packets packet before 0 after) where
-  repaired-decodes : Checked (decodeChecks (desk 2 2 1 table 12) packets) 0
-  repaired-decodes =
-      let D = desk 2 2 1 table 12 in
-      let named = passed (shapeChecks 2 2 1 table) (repairNamedChecks D packets 12 packet before) (numbered-by (shapeChecks 2 2 1 table) refl) (x .numbered) .1 in
-      let lent = passed (askedChecks 2 2 12 4 packet) (repairLentChecks D packets (packet - 1) before) (numbered-by (askedChecks 2 2 12 4 packet) refl) named .1 in
-      passed (repairLengthsChecks D packets (packet - 1) before) (decodeChecks D packets) (numbered-by (repairLengthsChecks D packets (packet - 1) before) refl) lent .1
-
+module _ (table packets : List ℕ) (wanted : ℕ) (before after : List ℕ) (x : PacketMade 2 2 1 table 12 packets wanted before 0 after) where
   -- where rebuild gives another number at the same packets
-  repaired-as-rebuilt : {number count : ℕ} {room sources : List ℕ} → Rebuilt 2 2 1 table 12 packets room number count sources → 8 ≤ number → ⊥
-  repaired-as-rebuilt {number} {count} {room} y l =
+  made-as-rebuilt : {number count : ℕ} {room sources : List ℕ} → Rebuilt 2 2 1 table 12 packets room number count sources → 8 ≤ number → ⊥
+  made-as-rebuilt {number} {count} {room} y l =
       let D = desk 2 2 1 table 12 in
       let front = markedChecks 2 2 1 table 12 ++ rebuildLengthsChecks D packets room in
-      omega (arith, checked-once (decodeChecks D packets) number 0 (from-later 8 front (decodeChecks D packets) number l (below-by 8 front refl) (y .numbered) .1) repaired-decodes)
+      let rebuilt = from-later 8 front (decodeChecks D packets) number l (below-by 8 front refl) (y .numbered) .1 in
+      omega (arith, checked-once (decodeChecks D packets) number 0 rebuilt (made-parts 2 2 1 table 12 packets wanted before (x .numbered) .3))
 
-pub no-repair-past-a-stall : {packet : ℕ} {before after : List ℕ} → Repaired 2 2 1 seven 12 parities packet before 0 after → ⊥
-no-repair-past-a-stall {packet} {before} {after} x = repaired-as-rebuilt seven parities packet before after x (example-met Name.rebuild-seven) (omega arith)
+pub no-packet-past-a-stall : {wanted : ℕ} {before after : List ℕ} → PacketMade 2 2 1 seven 12 parities wanted before 0 after → ⊥
+no-packet-past-a-stall {wanted} {before} {after} x = made-as-rebuilt seven parities wanted before after x (example-met Name.rebuild-seven) (omega arith)
 
-pub no-repair-of-stray-packets : {packet : ℕ} {before after : List ℕ} → Repaired 2 2 1 house 12 stray packet before 0 after → ⊥
-no-repair-of-stray-packets {packet} {before} {after} x = repaired-as-rebuilt house stray packet before after x (example-met Name.rebuild-one-above) (omega arith)
+pub no-packet-of-stray-packets : {wanted : ℕ} {before after : List ℕ} → PacketMade 2 2 1 house 12 stray wanted before 0 after → ⊥
+no-packet-of-stray-packets {wanted} {before} {after} x = made-as-rebuilt house stray wanted before after x (example-met Name.rebuild-one-above) (omega arith)
 
--- so no packet at hand is copied unseen: not parity 1 either, although it came as it was sent
-pub no-repair-of-foreign-packets : {packet : ℕ} {before after : List ℕ} → Repaired 2 2 1 house 12 foreign packet before 0 after → ⊥
-no-repair-of-foreign-packets {packet} {before} {after} x = repaired-as-rebuilt house foreign packet before after x (example-met Name.rebuild-no-sources) (omega arith)
+pub no-packet-of-foreign-packets : {wanted : ℕ} {before after : List ℕ} → PacketMade 2 2 1 house 12 foreign wanted before 0 after → ⊥
+no-packet-of-foreign-packets {wanted} {before} {after} x = made-as-rebuilt house foreign wanted before after x (example-met Name.rebuild-no-sources) (omega arith)
 
--- the packet at hand that stands there, for the one asked for: parity 1 for source 1
-pub no-packet-at-hand-for-another : Repaired 2 2 1 house 12 parities 1 (9 ∷ []) 0 (0x03 ∷ []) → ⊥
-unfolding coding
+-- so no copy of a packet at hand with no look at the others: parity 1 came as it was sent
+pub no-copy-of-a-packet-at-hand : PacketMade 2 2 1 house 12 foreign 3 two 0 (0x03 ∷ 0x00 ∷ []) → ⊥
+no-copy-of-a-packet-at-hand = no-packet-of-foreign-packets
+
+-- the first packet at hand for the wanted one: source 1 for source 2
+pub no-packet-at-hand-for-another : PacketMade 2 2 1 house 3 ownSources 2 (9 ∷ []) 0 (0x80 ∷ []) → ⊥
 no-packet-at-hand-for-another x =
-    omega (arith, ap (λ l. at l 0) (repair-gives-the-packet 2 2 1 house 12 parities (9 ∷ []) 1 (0x03 ∷ []) two 16 (0x01 ∷ 0x01 ∷ []) x (example-met Name.rebuild-both-parities)))
+    let e = one-packet-made 2 2 1 house 3 ownSources 2 (9 ∷ []) 0 (0x80 ∷ []) 0 (0xC0 ∷ []) x (example-met Name.packet-source-of-sources) in
+    omega (arith, ap (λ l. at l 0) (e .1))

@@ -12,7 +12,7 @@ use Rattle.table.specs.Desk.{Desk, desk, entry, most, mark, sourceBits, sourceB
 use Rattle.table.specs.Checks.{Checks, Checked, theList, InOrder, numbersOf, Listed, Refuses, shapeChecks, markedChecks, inputChecks, outputChecks}
 use Rattle.family.specs.Promise.{familyChecks, FamilyWritten, judgeChecks, Judged}
 use Rattle.code.specs.Code.{Bits, parity, sourcesOf, packetOf, survivorsOf, Source, Encodes}
-use Rattle.encode.specs.Promise.{encodeChecks, EncodedAll, encodeOneChecks, EncodedOne, packetLengthChecks, PacketMeasured, ParitiesMeasured, SurvivorsMeasured}
+use Rattle.encode.specs.Promise.{encodeChecks, EncodedAll, packetLengthChecks, PacketMeasured, ParitiesMeasured, SurvivorsMeasured}
 use Rattle.walk.specs.Walk.{Order, Gone, Held, Free, Stuck, Run, Whole}
 use Rattle.walk.specs.Read.{presentOf, readBy}
 use Rattle.walk.specs.Promise.{Walked, stepChecks, Stepped}
@@ -20,7 +20,7 @@ use Rattle.walk.specs.Ends.{Finishes}
 use Rattle.steps.specs.Promise.{stepListChecks, StepsChecked}
 use Rattle.survivors.specs.Packets.{EncodesTo, cameSource, cameParity}
 use Rattle.rebuild.specs.Promise.{rebuildChecks, Rebuilt}
-use Rattle.repair.specs.Promise.{repairChecks, Repaired}
+use Rattle.packet.specs.Promise.{wantedChecks, PacketMade}
 use Rattle.look.specs.Promise.{lookChecks, LookedAt}
 use Rattle.card.specs.Block.{maxInformation, blockChecks, IBlock}
 use Rattle.card.specs.Promise.{BlockTaken}
@@ -28,6 +28,7 @@ use Rattle.chain.specs.Run.{BlockRun, blockChecksIn, joinedChecks, Reached, Rea
 use Rattle.chain.specs.Cut.{cutInto, writeChecks}
 use Rattle.chain.specs.Promise.{BlocksRead, BlocksWritten}
 use Rattle.line.specs.Promise.{sheetChecks, LineRead}
+use Rattle.promises.specs.AnyPacket.{SourcesMarked}
 
 -- ---- Demand 1
 
@@ -59,9 +60,6 @@ pub record CallsListed : Type 0 where
   pub encode-all : (k m l : ℕ) (table sources before : List ℕ) (number : ℕ) (after : List ℕ)
       → EncodedAll k m l table sources before number after
       → MadeInOrder (encodeChecks k m l table sources before) (1 ∷ 2 ∷ 3 ∷ 4 ∷ 5 ∷ []) number
-  pub encode-one : (k m l : ℕ) (table : List ℕ) (packet : ℕ) (sources before : List ℕ) (number : ℕ) (after : List ℕ)
-      → EncodedOne k m l table packet sources before number after
-      → MadeInOrder (encodeOneChecks k m l table packet sources before) (1 ∷ 2 ∷ 3 ∷ 6 ∷ 4 ∷ 5 ∷ []) number
   pub walk : (k m l : ℕ) (table : List ℕ) (marks number count whole : ℕ) (progress : List ℕ)
       → Walked k m l table marks number count whole progress
       → MadeInOrder (markedChecks k m l table marks) (1 ∷ 2 ∷ 3 ∷ 6 ∷ 7 ∷ []) number
@@ -74,9 +72,9 @@ pub record CallsListed : Type 0 where
   pub rebuild : (k m l : ℕ) (table : List ℕ) (marks : ℕ) (packets before : List ℕ) (number count : ℕ) (after : List ℕ)
       → Rebuilt k m l table marks packets before number count after
       → MadeInOrder (rebuildChecks k m l table marks packets before) (1 ∷ 2 ∷ 3 ∷ 6 ∷ 7 ∷ 4 ∷ 5 ∷ 8 ∷ 9 ∷ 10 ∷ []) number
-  pub repair : (k m l : ℕ) (table : List ℕ) (marks : ℕ) (packets : List ℕ) (packet : ℕ) (before : List ℕ) (number : ℕ) (after : List ℕ)
-      → Repaired k m l table marks packets packet before number after
-      → MadeInOrder (repairChecks k m l table marks packets packet before) (1 ∷ 2 ∷ 3 ∷ 6 ∷ 7 ∷ 4 ∷ 5 ∷ 8 ∷ 9 ∷ 10 ∷ []) number
+  pub packet : (k m l : ℕ) (table : List ℕ) (marks : ℕ) (packets : List ℕ) (wanted : ℕ) (before : List ℕ) (number : ℕ) (after : List ℕ)
+      → PacketMade k m l table marks packets wanted before number after
+      → MadeInOrder (wantedChecks k m l table marks packets wanted before) (1 ∷ 2 ∷ 3 ∷ 6 ∷ 7 ∷ 4 ∷ 5 ∷ 8 ∷ 9 ∷ 10 ∷ []) number
   pub look : (k m l : ℕ) (table : List ℕ) (marks source : ℕ) (survivors rebuilt : List ℕ) (number buffer start bytes : ℕ)
       → LookedAt k m l table marks source survivors rebuilt number buffer start bytes
       → MadeInOrder (lookChecks k m l table marks source survivors rebuilt) (1 ∷ 2 ∷ 3 ∷ 6 ∷ 7 ∷ 4 ∷ 4 ∷ []) number
@@ -130,13 +128,6 @@ EncodeAllKeeps =
     → (number ≡ 0 → ⊥)
     → after ≡ before
 
-abbrev pub EncodeOneKeeps : Type 0
-EncodeOneKeeps =
-    (k m l : ℕ) (table : List ℕ) (packet : ℕ) (sources before : List ℕ) (number : ℕ) (after : List ℕ)
-    → EncodedOne k m l table packet sources before number after
-    → (number ≡ 0 → ⊥)
-    → after ≡ before
-
 abbrev pub RebuildKeeps : Type 0
 RebuildKeeps =
     (k m l : ℕ) (table : List ℕ) (marks : ℕ) (packets before : List ℕ) (number count : ℕ) (after : List ℕ)
@@ -144,10 +135,10 @@ RebuildKeeps =
     → (number ≡ 0 → ⊥)
     → after ≡ before
 
-abbrev pub RepairKeeps : Type 0
-RepairKeeps =
-    (k m l : ℕ) (table : List ℕ) (marks : ℕ) (packets : List ℕ) (packet : ℕ) (before : List ℕ) (number : ℕ) (after : List ℕ)
-    → Repaired k m l table marks packets packet before number after
+abbrev pub PacketKeeps : Type 0
+PacketKeeps =
+    (k m l : ℕ) (table : List ℕ) (marks : ℕ) (packets : List ℕ) (wanted : ℕ) (before : List ℕ) (number : ℕ) (after : List ℕ)
+    → PacketMade k m l table marks packets wanted before number after
     → (number ≡ 0 → ⊥)
     → after ≡ before
 
@@ -231,20 +222,24 @@ FiveIsForAnotherLength =
     → length sources ≡ sourcesBytes (desk k m l table 0)
     → (number ≡ 5) ↔ (length before ≡ bytes → ⊥)
 
--- Encode one: a parity's bits are the sum, a source's are the source's.
+-- One packet, encoded from the sources: a parity's bits are the sum, a source's are the source's.
 abbrev pub OneParityIsTheSum : Type 0
 OneParityIsTheSum =
-    (k m l : ℕ) (table sources before after : List ℕ) (a : ℕ)
+    (k m l : ℕ) (table : List ℕ) (marks : ℕ) (sources before after : List ℕ) (a : ℕ)
+    → SourcesMarked k marks
+    → Bytes sources
     → a < m
-    → EncodedOne k m l table (k + a + 1) sources before 0 after
+    → PacketMade k m l table marks sources (k + a + 1) before 0 after
     → (q : ℕ)
     → bitAt after q ≡ sumBit k m l table sources a q
 
 abbrev pub OneSourceIsTheSource : Type 0
 OneSourceIsTheSource =
-    (k m l : ℕ) (table sources before after : List ℕ) (c : ℕ)
+    (k m l : ℕ) (table : List ℕ) (marks : ℕ) (sources before after : List ℕ) (c : ℕ)
+    → SourcesMarked k marks
+    → Bytes sources
     → c < k
-    → EncodedOne k m l table (c + 1) sources before 0 after
+    → PacketMade k m l table marks sources (c + 1) before 0 after
     → (q : ℕ)
     → bitAt after q ≡ sourcesOf (desk k m l table 0) sources c q
 
@@ -264,13 +259,13 @@ RebuildGivesTheOnlySources =
     → EncodesTo (desk k m l table marks) packets y
     → y ≡ after
 
--- Repair gives the packet of that number of those sources.
-abbrev pub RepairGivesThePacket : Type 0
-RepairGivesThePacket =
-    (k m l : ℕ) (table : List ℕ) (marks : ℕ) (packets before : List ℕ) (packet : ℕ) (after room : List ℕ) (count : ℕ) (sources : List ℕ)
-    → Repaired k m l table marks packets packet before 0 after
+-- One packet, from the same packets, is that of those sources.
+abbrev pub PacketIsOfTheRebuiltSources : Type 0
+PacketIsOfTheRebuiltSources =
+    (k m l : ℕ) (table : List ℕ) (marks : ℕ) (packets before : List ℕ) (wanted : ℕ) (after room : List ℕ) (count : ℕ) (sources : List ℕ)
+    → PacketMade k m l table marks packets wanted before 0 after
     → Rebuilt k m l table marks packets room 0 count sources
-    → after ≡ packetOf (desk k m l table marks) sources (packet - 1)
+    → after ≡ packetOf (desk k m l table marks) sources (wanted - 1)
 
 -- the bits of all missing sources
 abbrev pub everyBit : ℕ → ℕ → ℕ → ℕ
@@ -289,6 +284,21 @@ SurvivorsGiveTheSources =
     → (number count : ℕ) (after : List ℕ)
     → Rebuilt k m l table marks packets before number count after
     → (number ≡ 0) × (after ≡ sources) × (count ≡ everyBit k l marks)
+
+-- And packet gives any packet as those sources encode to it, lost or at hand.
+abbrev pub AnyPacketFromAnyK : Type 0
+AnyPacketFromAnyK =
+    (k m l : ℕ) (table : List ℕ) (marks : ℕ) (packets sources : List ℕ)
+    → EncodesTo (desk k m l table marks) packets sources
+    → Judged k m table 0 1
+    → Checked (markedChecks k m l table marks) 0
+    → (i : ℕ)
+    → i < k + m
+    → (before : List ℕ)
+    → length before ≡ packetBytes (desk k m l table marks) i
+    → (number : ℕ) (after : List ℕ)
+    → PacketMade k m l table marks packets (i + 1) before number after
+    → (number ≡ 0) × (after ≡ packetOf (desk k m l table marks) sources i)
 
 -- packet i, of the sources and of the parities that encode all wrote
 abbrev pub written : ℕ → ℕ → ℕ → List ℕ → List ℕ → List ℕ → ℕ → List ℕ
@@ -312,6 +322,23 @@ EncodeLoseRebuild =
     → (number count : ℕ) (after : List ℕ)
     → Rebuilt k m l table marks (atHand k m l table sources parities marks) before number count after
     → (number ≡ 0) × (after ≡ sources) × (count ≡ everyBit k l marks)
+
+-- So any card, lost or at hand, is made as it was written.
+abbrev pub EncodeLoseMake : Type 0
+EncodeLoseMake =
+    (k m l : ℕ) (table sources parities room : List ℕ)
+    → Bytes sources
+    → EncodedAll k m l table sources room 0 parities
+    → Judged k m table 0 1
+    → (marks : ℕ)
+    → Checked (markedChecks k m l table marks) 0
+    → (i : ℕ)
+    → i < k + m
+    → (before : List ℕ)
+    → length before ≡ packetBytes (desk k m l table marks) i
+    → (number : ℕ) (after : List ℕ)
+    → PacketMade k m l table marks (atHand k m l table sources parities marks) (i + 1) before number after
+    → (number ≡ 0) × (after ≡ written k m l table sources parities i)
 
 -- D2.3 once the shape is accepted and the walk does not stall, it refuses exactly when no sources do.
 

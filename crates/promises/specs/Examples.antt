@@ -9,6 +9,7 @@ use Rattle.encode.specs.Promise.{EncodedAll, PacketMeasured, ParitiesMeasured}
 use Rattle.walk.specs.Promise.{Walked}
 use Rattle.steps.specs.Promise.{StepsChecked}
 use Rattle.rebuild.specs.Promise.{Rebuilt}
+use Rattle.packet.specs.Promise.{PacketMade}
 use Rattle.card.specs.Promise.{BlockTaken}
 use Rattle.chain.specs.Promise.{BlocksRead, BlocksWritten}
 
@@ -23,6 +24,7 @@ pub data Example : Type 0 where
   walk : (k m l : ℕ) (table : List ℕ) (marks count whole : ℕ) (progress : List ℕ) → Example
   check-steps : (k m l : ℕ) (table : List ℕ) (marks : ℕ) (parities sources : List ℕ) (number place : ℕ) → Example
   rebuild : (k m l : ℕ) (table : List ℕ) (marks : ℕ) (packets before : List ℕ) (number count : ℕ) (after : List ℕ) → Example
+  make : (k m l : ℕ) (table : List ℕ) (marks : ℕ) (packets : List ℕ) (wanted : ℕ) (before : List ℕ) (number : ℕ) (after : List ℕ) → Example
   block : (bytes before : List ℕ) (count sequence more : ℕ) (after : List ℕ) → Example
   read : (run before : List ℕ) (number count : ℕ) (after : List ℕ) → Example
   write : (packet : List ℕ) (size : ℕ) (before : List ℕ) (count : ℕ) (after : List ℕ) → Example
@@ -38,6 +40,7 @@ Met (encode k m l table sources before parities) = EncodedAll k m l table source
 Met (walk k m l table marks count whole progress) = Walked k m l table marks 0 count whole progress
 Met (check-steps k m l table marks parities sources number place) = StepsChecked k m l table marks parities sources number place
 Met (rebuild k m l table marks packets before number count after) = Rebuilt k m l table marks packets before number count after
+Met (make k m l table marks packets wanted before number after) = PacketMade k m l table marks packets wanted before number after
 Met (block bytes before count sequence more after) = BlockTaken bytes before 0 count sequence more after
 Met (read run before number count after) = BlocksRead run before number count after
 Met (write packet size before count after) = BlocksWritten packet size before 0 count after
@@ -101,6 +104,7 @@ pub data Name : Type 0 where
   steps-none-missing steps-none-written steps-nought steps-unequal : Name
   rebuild-both-parities rebuild-one-parity rebuild-no-parity rebuild-high-bits : Name
   rebuild-one-above rebuild-past-the-row rebuild-no-sources rebuild-seven rebuild-eight rebuild-stuck : Name
+  packet-parity-of-sources packet-source-of-sources packet-lost packet-at-hand packet-no-sources packet-none-such : Name
   block-two-bytes block-two-bytes-next block-no-bytes block-first-of-two : Name
   run-of-two run-first-alone run-second-first run-byte-behind run-empty run-byte-after-more : Name
   cut-by-two cut-by-one cut-empty : Name
@@ -183,6 +187,13 @@ example rebuild-no-sources = rebuild 2 2 1 house 12 (0x03 ∷ 0x00 ∷ 0x05 ∷ 
 example rebuild-seven = rebuild 2 2 1 seven 12 (0x03 ∷ 0x00 ∷ 0x05 ∷ 0x00 ∷ []) (9 ∷ 9 ∷ []) 8 7 (9 ∷ 9 ∷ [])
 example rebuild-eight = rebuild 2 2 1 eight 12 (0x01 ∷ 0x01 ∷ 0x01 ∷ 0x01 ∷ []) (9 ∷ 9 ∷ []) 0 16 (0x01 ∷ 0x01 ∷ [])
 example rebuild-stuck = rebuild 3 3 1 stuck 56 (1 ∷ 2 ∷ 3 ∷ 4 ∷ 5 ∷ 6 ∷ []) (9 ∷ 9 ∷ 9 ∷ []) 8 0 (9 ∷ 9 ∷ 9 ∷ [])
+example packet-parity-of-sources = make 2 2 1 house 3 (0x80 ∷ 0xC0 ∷ []) 4 (9 ∷ 9 ∷ []) 0 (0x80 ∷ 0x03 ∷ [])
+example packet-source-of-sources = make 2 2 1 house 3 (0x80 ∷ 0xC0 ∷ []) 2 (9 ∷ []) 0 (0xC0 ∷ [])
+example packet-lost = make 2 2 1 house 12 (0x00 ∷ 0x01 ∷ 0x80 ∷ 0x03 ∷ []) 1 (9 ∷ []) 0 (0x80 ∷ [])
+example packet-at-hand = make 2 2 1 house 12 (0x00 ∷ 0x01 ∷ 0x80 ∷ 0x03 ∷ []) 3 (9 ∷ 9 ∷ []) 0 (0x00 ∷ 0x01 ∷ [])
+-- packet 3 came as it was sent, but no sources encode to it and to packet 4
+example packet-no-sources = make 2 2 1 house 12 (0x03 ∷ 0x00 ∷ 0x05 ∷ 0x01 ∷ []) 3 (9 ∷ 9 ∷ []) 10 (9 ∷ 9 ∷ [])
+example packet-none-such = make 2 2 1 house 3 (0x80 ∷ 0xC0 ∷ []) 5 (9 ∷ 9 ∷ []) 6 (9 ∷ 9 ∷ [])
 example block-two-bytes = block (0x00 ∷ 0x00 ∷ 0x02 ∷ 0xAA ∷ 0x55 ∷ 0xFD ∷ []) (1 ∷ 2 ∷ 3 ∷ 4 ∷ []) 2 0 0 (0xAA ∷ 0x55 ∷ 3 ∷ 4 ∷ [])
 example block-two-bytes-next = block (0x00 ∷ 0x40 ∷ 0x02 ∷ 0xAA ∷ 0x55 ∷ 0xBD ∷ []) (1 ∷ 2 ∷ 3 ∷ 4 ∷ []) 2 1 0 (0xAA ∷ 0x55 ∷ 3 ∷ 4 ∷ [])
 example block-no-bytes = block (0x00 ∷ 0x00 ∷ 0x00 ∷ 0x00 ∷ []) (1 ∷ 2 ∷ 3 ∷ 4 ∷ []) 0 0 0 (1 ∷ 2 ∷ 3 ∷ 4 ∷ [])
@@ -247,6 +258,12 @@ examples =
     ∷ rebuild-seven
     ∷ rebuild-eight
     ∷ rebuild-stuck
+    ∷ packet-parity-of-sources
+    ∷ packet-source-of-sources
+    ∷ packet-lost
+    ∷ packet-at-hand
+    ∷ packet-no-sources
+    ∷ packet-none-such
     ∷ block-two-bytes
     ∷ block-two-bytes-next
     ∷ block-no-bytes

@@ -1,3 +1,4 @@
+pub mod AnyPacket
 pub mod Demands
 pub mod StepLists
 pub mod Examples

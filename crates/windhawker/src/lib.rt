@@ -1,11 +1,11 @@
 // The C interface: each export keeps the promise of the call that it passes on. Numbers come back as results, all else in slots.
 use table::Table;
 ghost use Rattle.family.specs.Promise.{FamilyWritten, Judged};
-ghost use Rattle.encode.specs.Promise.{EncodedAll, EncodedOne, PacketMeasured, ParitiesMeasured, SurvivorsMeasured};
+ghost use Rattle.encode.specs.Promise.{EncodedAll, PacketMeasured, ParitiesMeasured, SurvivorsMeasured};
 ghost use Rattle.walk.specs.Promise.{Walked, Stepped};
 ghost use Rattle.steps.specs.Promise.{StepsChecked};
 ghost use Rattle.rebuild.specs.Promise.{Rebuilt};
-ghost use Rattle.repair.specs.Promise.{Repaired};
+ghost use Rattle.packet.specs.Promise.{PacketMade};
 ghost use Rattle.look.specs.Promise.{LookedAt};
 ghost use Rattle.card.specs.Promise.{BlockTaken};
 ghost use Rattle.chain.specs.Promise.{BlocksRead, BlocksWritten};
@@ -85,22 +85,6 @@ pub extern "C" fn whx_encode_all(
     ensures { λ r. ⌜ EncodedAll k m l (now (table .entry)) (now (sources .entry)) (now (out .entry)) r (now (out .exit)) ⌝ }
 {
     encode::encode_all(k, m, l, table, sources, out)
-}
-
-// One packet of the sources.
-#[no_mangle]
-pub extern "C" fn whx_encode_one(
-    k: u64,
-    m: u64,
-    l: u64,
-    table: &[u8],
-    packet: u64,
-    sources: &[u8],
-    out: &mut [u8],
-) -> u64
-    ensures { λ r. ⌜ EncodedOne k m l (now (table .entry)) packet (now (sources .entry)) (now (out .entry)) r (now (out .exit)) ⌝ }
-{
-    encode::encode_one(k, m, l, table, packet, sources, out)
 }
 
 // The walk from nothing to its end.
@@ -230,21 +214,21 @@ pub extern "C" fn whx_rebuild(
     a.number
 }
 
-// One packet from the packets at hand.
+// Any packet from the packets at hand.
 #[no_mangle]
-pub extern "C" fn whx_repair(
+pub extern "C" fn whx_packet(
     k: u64,
     m: u64,
     l: u64,
     table: &[u8],
     marks: u64,
     packets: &[u8],
-    packet: u64,
+    wanted: u64,
     out: &mut [u8],
 ) -> u64
-    ensures { λ r. ⌜ Repaired k m l (now (table .entry)) marks (now (packets .entry)) packet (now (out .entry)) r (now (out .exit)) ⌝ }
+    ensures { λ r. ⌜ PacketMade k m l (now (table .entry)) marks (now (packets .entry)) wanted (now (out .entry)) r (now (out .exit)) ⌝ }
 {
-    repair::repair(k, m, l, table, marks, packets, packet, out)
+    packet::packet(k, m, l, table, marks, packets, wanted, out)
 }
 
 // Where one source stands for reading.

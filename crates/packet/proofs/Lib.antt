@@ -1,0 +1,3 @@
+pub mod CheckParts
+pub mod OneAnswer
+pub mod NoneMissing
