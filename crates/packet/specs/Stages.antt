@@ -2,11 +2,16 @@
 use mathlib.Core.Path.{_≡_}
 use mathlib.Core.List.{List, _++_}
 use Prim.Native.Nat.{ℕ, _+_, _-_}
+use Rattle.bits.specs.Sums.{count}
 use Rattle.table.specs.Desk.{Desk, packetBytes, survivorsBytes}
 use Rattle.table.specs.Checks.{Checks, Answered, askedChecks, inputChecks, outputChecks}
 use Rattle.code.specs.Code.{packetOf}
 use Rattle.survivors.specs.Packets.{EncodesTo}
 use Rattle.rebuild.specs.Stages.{decodeChecks}
+
+-- exactly k packets are at hand
+abbrev pub ExactlyK : Desk → Type 0
+ExactlyK D = count (D .k + D .m) (D .present) ≡ D .k
 
 module _ (D : Desk) (packets : List ℕ) where
   open Desk D using (k, m)

@@ -5,11 +5,10 @@ ghost use mathlib.Core.Path.{_≡_};
 ghost use mathlib.Core.Bool.{true};
 ghost use lib.ListN.{length, take};
 ghost use Prim.Native.Nat.{ℕ, _+_, _≤_, _<_};
-ghost use Rattle.bits.specs.Sums.{count};
 ghost use Rattle.table.specs.Desk.{mark, sourcesBytes, packetBytes};
 ghost use Rattle.table.specs.Table.{Within, Ready, Survivors, deskOf};
 ghost use Rattle.code.specs.Code.{packetOf};
-ghost use Rattle.packet.specs.Stages.{PacketDecided, PacketLent, PacketNamed};
+ghost use Rattle.packet.specs.Stages.{ExactlyK, PacketDecided, PacketLent, PacketNamed};
 ghost use Rattle.packet.specs.Promise.{PacketMade};
 
 // Packet i, from 0, of the sources that stand first in a longer list, into out, which is as long as it is.
@@ -71,7 +70,7 @@ fn packet_of_sources(
     out: &mut [u8],
 ) -> u64
     requires { ⌜ Ready s (now shifts) ⌝ }
-    requires { ⌜ count (s .k + s .m) (mark (s .marks)) ≡ s .k ⌝ }
+    requires { ⌜ ExactlyK (deskOf s (now shifts)) ⌝ }
     requires { ⌜ ((c : ℕ) → c < s .k → mark (s .marks) c ≡ true) ⌝ }
     requires { ⌜ i < s .k + s .m ⌝ }
     ensures { λ r. ⌜ PacketLent (deskOf s (now (shifts .entry))) (now (packets .entry)) i (now (out .entry)) r (now (out .exit)) ⌝ }
@@ -95,7 +94,7 @@ fn packet_lent(
     out: &mut [u8],
 ) -> u64
     requires { ⌜ Ready s (now shifts) ⌝ }
-    requires { ⌜ count (s .k + s .m) (mark (s .marks)) ≡ s .k ⌝ }
+    requires { ⌜ ExactlyK (deskOf s (now shifts)) ⌝ }
     requires { ⌜ i < s .k + s .m ⌝ }
     ensures { λ r. ⌜ PacketLent (deskOf s (now (shifts .entry))) (now (packets .entry)) i (now (out .entry)) r (now (out .exit)) ⌝ }
 {

@@ -3,7 +3,7 @@ use mathlib.Core.Path.{_≡_, refl, sym, ap, _∙_}
 use mathlib.Core.Logic.{inl, inr}
 use mathlib.Core.Bool.{Bool, true, false, cond, true≢false}
 use mathlib.Core.List.{List, _++_}
-use Prim.Native.Nat.{ℕ, zero, suc, _+_, _-_, _*_, _/_, _^_, _%_, _≤_, _<_}
+use Prim.Native.Nat.{ℕ, zero, suc, _+_, _-_, _/_, _^_, _%_, _≤_, _<_}
 use native.Mathlib.Omega.{arith}
 use native.Mathlib.Nat.{pow-succ', div-one, div-eq-of-lt}
 use native.Mathlib.Decide.{decLt}
@@ -13,7 +13,7 @@ use lib.ListN.{length}
 use Rattle.bits.specs.Sums.{count}
 use Rattle.bits.specs.Bits.{Bytes}
 use Rattle.bits.proofs.SumLaws.{sum-nought, count-add}
-use Rattle.table.specs.Desk.{Desk, desk, mark, sourceBytes, sourcesBytes, survivorsBytes, packetBits, packetBytes, reach}
+use Rattle.table.specs.Desk.{Desk, desk, mark, sourcesBytes, survivorsBytes, packetBits, packetBytes, reach}
 use Rattle.table.specs.Checks.{Checks, Checked, MarkAbove, shapeChecks, numberChecks, inputChecks, outputChecks}
 use Rattle.table.proofs.CheckLaws.{numbered-by, checked-once, checked-below, below-by, stops, goes, stops-or-goes, rest-decides, zero-checked, not-unequal, neither, lengths-exact}
 use Rattle.table.proofs.AnswerLaws.{answer-passes}
@@ -165,7 +165,7 @@ packet-is-what-encode-one-gave k m l table marks sources wanted before number af
 
 pub numbers-from-the-sources : AnyPacket.NumbersFromTheSources
 numbers-from-the-sources k m l table marks sources wanted before number after S are-bytes x =
-    (checked-below 7 checks number (omega arith) (below-by 7 checks refl) gave, λ accepted. ((λ e. asked e (lengths accepted)), (λ other. checked-once sizes number 4 (lengths accepted) (inl (other, refl)))))
+    (checked-below 7 checks number (omega arith) (below-by 7 checks refl) gave, λ accepted. (asked (lengths accepted), λ other. checked-once sizes number 4 (lengths accepted) (inl (other, refl))))
   where
     checks : Checks
     checks = encodeOneChecks k m l table wanted sources before
@@ -182,7 +182,7 @@ numbers-from-the-sources k m l table marks sources wanted before number after S 
     lengths : Checked front 0 → Checked sizes number
     lengths accepted = rest-decides front sizes number (numbered-by front refl) accepted gave
 
-    asked : number ≡ 4 → Checked sizes number → length sources ≡ k * sourceBytes l → ⊥
-    asked e (inl c) = c .0
-    asked e (inr (_, inl c)) = absurd (omega (arith, c .1))
-    asked e (inr (_, inr c)) = absurd (omega (arith, c))
+    asked : Checked sizes number → number ≡ 4 → length sources ≡ sourcesBytes (desk k m l table marks) → ⊥
+    asked (inl c) e = c .0
+    asked (inr (_, inl c)) e = absurd (omega (arith, c .1))
+    asked (inr (_, inr c)) e = absurd (omega (arith, c))

@@ -3,10 +3,10 @@ use mathlib.Core.Path.{_≡_}
 use mathlib.Core.Logic.{_↔_}
 use mathlib.Core.List.{List, _++_}
 use mathlib.Core.Bool.{true}
-use Prim.Native.Nat.{ℕ, _+_, _-_, _*_, _^_, _<_}
+use Prim.Native.Nat.{ℕ, _+_, _-_, _^_, _<_}
 use lib.ListN.{length}
 use Rattle.bits.specs.Bits.{Bytes}
-use Rattle.table.specs.Desk.{mark, sourceBytes}
+use Rattle.table.specs.Desk.{desk, mark, sourcesBytes}
 use Rattle.table.specs.Checks.{Checked, shapeChecks, numberChecks}
 use Rattle.encode.specs.Promise.{EncodedOne}
 use Rattle.packet.specs.Promise.{PacketMade}
@@ -27,11 +27,11 @@ PacketIsWhatEncodeOneGave =
     → Bytes sources
     → PacketMade k m l table marks sources wanted before number after ↔ EncodedOne k m l table wanted sources before number after
 
--- So 7, 8, 9 and 10 do not occur; and where neither the shape nor the wanted number is refused, 4 is for sources that are not k times a source's bytes.
+-- So 7, 8, 9 and 10 do not occur; and where neither the shape nor the wanted number is refused, 4 is for an input that has not the bytes of all sources.
 abbrev pub NumbersFromTheSources : Type 0
 NumbersFromTheSources =
     (k m l : ℕ) (table : List ℕ) (marks : ℕ) (sources : List ℕ) (wanted : ℕ) (before : List ℕ) (number : ℕ) (after : List ℕ)
     → SourcesMarked k marks
     → Bytes sources
     → PacketMade k m l table marks sources wanted before number after
-    → (number < 7) × (Checked (shapeChecks k m l table ++ numberChecks (k + m) wanted) 0 → (number ≡ 4) ↔ (length sources ≡ k * sourceBytes l → ⊥))
+    → (number < 7) × (Checked (shapeChecks k m l table ++ numberChecks (k + m) wanted) 0 → (number ≡ 4) ↔ (length sources ≡ sourcesBytes (desk k m l table marks) → ⊥))

@@ -34,7 +34,7 @@ returns c =
     answer-refused (numberChecks (s .s .k + s .s .m) (s .packet)) (w .one-of .result) _ (w .one-of .ensures) (c .before .if1 .taken) (e .0) (e .1)
 
 sub-packet-bytes : tie.Need-sub-packet-bytes
-sub-packet-bytes c = named c .1
+sub-packet-bytes c = omega (arith, named c .1)
 
 packet-bytes-requires : tie.Need-packet-bytes-requires
 packet-bytes-requires c κs = (c .before .before .before .pre, omega (arith, named c .1, named c .2))
