@@ -8,8 +8,9 @@
 #include <string.h>
 
 enum { PACKETS_MOST = WH_MAX_K + WH_MAX_M, TABLE_BYTES = 32, FILLED = 64 };
+enum { ROWS_BYTES = (WH_MAX_K + 1) * WH_MAX_K };
 
-static uint8_t matrix[PACKETS_MOST * WH_MAX_K];
+static uint8_t matrix[(PACKETS_MOST + 1) * WH_MAX_K];
 static uint8_t encode_tables[TABLE_BYTES * WH_MAX_K * WH_MAX_M];
 static uint8_t rebuild_tables[TABLE_BYTES * WH_MAX_K * WH_MAX_K];
 static uint8_t bytes[PACKETS_MOST][FILLED], rebuilt[WH_MAX_K][FILLED];
@@ -20,13 +21,24 @@ static void make_encode_tables(const job *j)
     ec_init_tables((int)j->k, (int)j->m, matrix + j->k * j->k, encode_tables);
 }
 
-/* The rows of the packets at hand, inverted: its first rows give the lost sources. */
+/* Takes rows out of a matrix. A copy of as many bytes as the compiler knows of is fastest: what is
+ * too much of a row is covered by the next, and after the last there is room for it. */
+static void take_rows(uint8_t *rows, const uint8_t *of, const unsigned *which, unsigned count,
+                      unsigned k)
+{
+    for (unsigned i = 0; i < count; i++) {
+        memcpy(rows + i * k, of + which[i] * k, WH_MAX_K);
+    }
+}
+
+/* The rows of the packets at hand, inverted: its rows of the lost sources give them. */
 static void make_rebuild_tables(const job *j)
 {
-    uint8_t rows[WH_MAX_K * WH_MAX_K], inverted[WH_MAX_K * WH_MAX_K];
-    memcpy(rows, matrix + j->lost * j->k, j->k * j->k);
+    uint8_t rows[ROWS_BYTES], inverted[ROWS_BYTES];
+    take_rows(rows, matrix, j->at_hand, j->k, j->k);
     gf_invert_matrix(rows, inverted, (int)j->k);
-    ec_init_tables((int)j->k, (int)j->lost, inverted, rebuild_tables);
+    take_rows(rows, inverted, j->missing, j->lost, j->k);
+    ec_init_tables((int)j->k, (int)j->lost, rows, rebuild_tables);
 }
 
 static void begin(const job *j)
@@ -37,8 +49,10 @@ static void begin(const job *j)
     }
     for (unsigned i = 0; i < j->k; i++) {
         memcpy(bytes[i], j->sources + i * (size_t)LENGTH, LENGTH);
-        at_hand[i] = bytes[j->lost + i];
-        lost[i] = rebuilt[i];
+        at_hand[i] = bytes[j->at_hand[i]];
+    }
+    for (unsigned i = 0; i < j->lost; i++) {
+        lost[i] = rebuilt[j->missing[i]];
     }
     make_encode_tables(j);
     make_rebuild_tables(j);
@@ -57,7 +71,9 @@ static void encode(const job *j)
 
 static void lose(const job *j)
 {
-    memset(bytes, 0, j->lost * sizeof bytes[0]);
+    for (unsigned i = 0; i < j->lost; i++) {
+        memset(bytes[j->missing[i]], 0, sizeof bytes[0]);
+    }
     memset(rebuilt, 0, sizeof rebuilt);
 }
 
@@ -74,7 +90,7 @@ static void rebuild(const job *j)
 
 static const uint8_t *source(unsigned b)
 {
-    return rebuilt[b - 1];
+    return rebuilt[b];
 }
 
 static const uint8_t *no_parities(void)

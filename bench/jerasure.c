@@ -1,5 +1,6 @@
-/* Debian's Jerasure: a Reed-Solomon code over bytes. The matrix is kept from call to call;
- * jerasure_matrix_decode inverts it in every call. */
+/* Debian's Jerasure: a Reed-Solomon code over bytes. The matrix is kept from call to call, and its
+ * rows of the parities at hand, which a rebuild has for the whole; jerasure_matrix_decode inverts
+ * in every call. */
 #include "job.h"
 
 #include <jerasure.h>
@@ -12,8 +13,8 @@ enum { WORD = 8 };
 /* Jerasure wants all packets to start alike, so each has 64 bytes of room. */
 enum { ROOM = 64 };
 static uint64_t bytes[WH_MAX_K + WH_MAX_M][ROOM / 8];
-static char *sources[WH_MAX_K], *parities[WH_MAX_M];
-static int erased[WH_MAX_K + 1];
+static char *sources[WH_MAX_K], *parities[WH_MAX_M], *at_hand[WH_MAX_K];
+static int erased[WH_MAX_K + 1], rows[WH_MAX_K * WH_MAX_K];
 static int *matrix;
 
 static void begin(const job *j)
@@ -28,7 +29,10 @@ static void begin(const job *j)
         parities[i] = (char *)bytes[WH_MAX_K + i];
     }
     for (unsigned i = 0; i < j->lost; i++) {
-        erased[i] = (int)i;
+        unsigned a = parity_at_hand(j, i);
+        at_hand[i] = parities[a];
+        memcpy(rows + i * j->k, matrix + a * j->k, j->k * sizeof rows[0]);
+        erased[i] = (int)j->missing[i];
     }
     erased[j->lost] = -1;
 }
@@ -40,18 +44,22 @@ static void encode(const job *j)
 
 static void lose(const job *j)
 {
-    memset(bytes, 0, j->lost * sizeof bytes[0]);
+    for (unsigned i = 0; i < j->lost; i++) {
+        memset(bytes[j->missing[i]], 0, sizeof bytes[0]);
+    }
 }
 
+/* The first row of the matrix, and no other, is all ones. */
 static void rebuild(const job *j)
 {
-    jerasure_matrix_decode((int)j->k, (int)j->m, WORD, matrix, 1, erased, sources, parities,
-                           LENGTH);
+    int begins_with_ones = parity_at_hand(j, 0) == 0;
+    jerasure_matrix_decode((int)j->k, (int)j->lost, WORD, rows, begins_with_ones, erased, sources,
+                           at_hand, LENGTH);
 }
 
 static const uint8_t *source(unsigned b)
 {
-    return (const uint8_t *)bytes[b - 1];
+    return (const uint8_t *)bytes[b];
 }
 
 static const uint8_t *no_parities(void)

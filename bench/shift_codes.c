@@ -2,15 +2,12 @@
 #include "job.h"
 #include "windhawker.h"
 
-#include <stdio.h>
-#include <stdlib.h>
 #include <string.h>
 
 static uint8_t parities[WH_MAX_M * WH_LONGEST];
 static uint8_t packets[(WH_MAX_K + WH_MAX_M) * WH_LONGEST];
 static uint8_t rebuilt[WH_MAX_K * LENGTH];
 static size_t packets_bytes;
-static uint64_t marks;
 
 static void begin(const job *j)
 {
@@ -20,33 +17,30 @@ static void begin(const job *j)
 /* Puts the packets at hand together: the sources that are not lost, then the parities. */
 static void lose(const job *j)
 {
-    size_t kept = (j->k - j->lost) * (size_t)LENGTH, used = 0;
-    for (unsigned a = 0; a < j->lost; a++) {
-        used += j->parity_bytes[a];
+    const uint8_t *packet = j->sources;
+    packets_bytes = 0;
+    for (unsigned p = 0; p < j->k + j->m; p++) {
+        if (p == j->k) {
+            packet = parities;
+        }
+        size_t length = p < j->k ? LENGTH : j->parity_bytes[p - j->k];
+        if (j->marks >> p & 1) {
+            memcpy(packets + packets_bytes, packet, length);
+            packets_bytes += length;
+        }
+        packet += length;
     }
-    marks = (((uint64_t)1 << j->k) - 1) << j->lost;
-    memcpy(packets, j->sources + j->lost * (size_t)LENGTH, kept);
-    memcpy(packets + kept, parities, used);
-    packets_bytes = kept + used;
     memset(rebuilt, 0, sizeof rebuilt);
 }
 
 static const uint8_t *source(unsigned b)
 {
-    return rebuilt + (b - 1) * (size_t)LENGTH;
+    return rebuilt + b * (size_t)LENGTH;
 }
 
 static const uint8_t *all_parities(void)
 {
     return parities;
-}
-
-static void must(uint64_t number)
-{
-    if (number != WH_DONE) {
-        printf("refused: %s\n", wh_meaning(number));
-        exit(1);
-    }
 }
 
 static void library_encode(const job *j)
@@ -57,7 +51,7 @@ static void library_encode(const job *j)
 
 static void library_rebuild(const job *j)
 {
-    must(wh_rebuild(j->k, j->m, LENGTH, j->table, j->m * j->k, marks, packets, packets_bytes,
+    must(wh_rebuild(j->k, j->m, LENGTH, j->table, j->m * j->k, j->marks, packets, packets_bytes,
                     rebuilt, j->k * (size_t)LENGTH)
              .number);
 }
@@ -69,7 +63,7 @@ static void student_encode(const job *j)
 
 static void student_rebuild(const job *j)
 {
-    plain_rebuild(j->k, j->m, LENGTH, j->table, marks, packets, j->parity_bytes, rebuilt);
+    plain_rebuild(j->k, j->m, LENGTH, j->table, j->marks, packets, j->parity_bytes, rebuilt);
 }
 
 const contestant windhawker = {"Windhawker",    begin,  library_encode, lose,

@@ -1,9 +1,9 @@
-/* Prints how long Windhawker takes beside each other contestant, as ratios in a Markdown table.
- * Every contestant is checked for right answers before it is timed. */
+/* Prints how long Windhawker takes beside each other contestant, as ratios in two Markdown tables:
+ * with the first sources missing, and the mean over sets of packets drawn at random. Every
+ * contestant is checked for right answers before it is timed. */
 #define _POSIX_C_SOURCE 200809L
 
 #include "job.h"
-#include "windhawker.h"
 
 #include <stdio.h>
 #include <stdlib.h>
@@ -20,7 +20,8 @@ static const contestant *const contestants[] = {
 #endif
 };
 
-enum { CONTESTANTS = sizeof contestants / sizeof contestants[0], ROUNDS = 60 };
+enum { CONTESTANTS = sizeof contestants / sizeof contestants[0] };
+enum { ROUNDS = 60, DRAWN_SETS = 50, DRAWN_ROUNDS = 10 };
 
 /* ---- Right answers ---- */
 
@@ -57,8 +58,9 @@ static int right_parities(const job *j, const uint8_t *parities)
 
 static int right_sources(const job *j, const contestant *c)
 {
-    for (unsigned b = 1; b <= j->lost; b++) {
-        if (memcmp(c->source(b), j->sources + (b - 1) * (size_t)LENGTH, LENGTH) != 0) {
+    for (unsigned i = 0; i < j->lost; i++) {
+        unsigned b = j->missing[i];
+        if (memcmp(c->source(b), j->sources + b * (size_t)LENGTH, LENGTH) != 0) {
             return 0;
         }
     }
@@ -73,7 +75,7 @@ static void check(const job *j, const contestant *c)
     c->lose(j);
     c->rebuild(j);
     if (!right || !right_sources(j, c)) {
-        printf("%s is wrong at k %u, m %u, %u lost\n", c->name, j->k, j->m, j->lost);
+        printf("%s is wrong at k %u, m %u, marks %x\n", c->name, j->k, j->m, (unsigned)j->marks);
         exit(1);
     }
 }
@@ -108,99 +110,130 @@ static work *work_of(const contestant *c, int rebuilding)
     return rebuilding ? c->rebuild : c->encode;
 }
 
-/* The shortest time of a call of each contestant, taken in turns. */
-static void time_all(const job *j, int rebuilding, double *shortest)
+/* Adds the shortest time of a call of each contestant, taken in turns. */
+static void add_times(const job *j, int rebuilding, int rounds, double *totals)
 {
     unsigned calls[CONTESTANTS];
+    double shortest[CONTESTANTS];
     for (int i = 0; i < CONTESTANTS; i++) {
         check(j, contestants[i]);
         calls[i] = calls_for(work_of(contestants[i], rebuilding), j);
         shortest[i] = 1e9;
     }
-    for (int round = 0; round < ROUNDS; round++) {
+    for (int round = 0; round < rounds; round++) {
         for (int i = 0; i < CONTESTANTS; i++) {
             check(j, contestants[i]);
             double took = seconds_of(work_of(contestants[i], rebuilding), j, calls[i]) / calls[i];
             shortest[i] = took < shortest[i] ? took : shortest[i];
         }
     }
+    for (int i = 0; i < CONTESTANTS; i++) {
+        totals[i] += shortest[i];
+    }
 }
 
-/* ---- The table ---- */
+/* ---- The tables ---- */
 
-static void print_row(const job *j, int rebuilding)
+static void print_head(const char *names, const char *dashes)
 {
-    double shortest[CONTESTANTS];
-    time_all(j, rebuilding, shortest);
-    printf("| %u, %u | ", j->k, j->m);
-    if (rebuilding) {
-        printf("rebuild, %u of %u sources missing |", j->lost, j->k);
-    } else {
-        printf("encode all |");
-    }
+    printf("\n%s", names);
     for (int i = 1; i < CONTESTANTS; i++) {
-        printf(" %.2f |", shortest[0] / shortest[i]);
+        printf(" %s |", contestants[i]->name);
+    }
+    printf("\n%s", dashes);
+    for (int i = 1; i < CONTESTANTS; i++) {
+        printf("---|");
+    }
+    printf("\n");
+}
+
+static void print_ratios(const double *totals)
+{
+    for (int i = 1; i < CONTESTANTS; i++) {
+        printf(" %.2f |", totals[0] / totals[i]);
     }
     printf("\n");
     fflush(stdout);
 }
 
-static void must(uint64_t number)
+static void print_encode_row(const job *j)
 {
-    if (number != WH_DONE) {
-        printf("no job: %s\n", wh_meaning(number));
-        exit(1);
+    double totals[CONTESTANTS] = {0};
+    add_times(j, 0, ROUNDS, totals);
+    printf("| %u, %u | encode all |", j->k, j->m);
+    print_ratios(totals);
+}
+
+static void print_rebuild_row(job *j, unsigned lost)
+{
+    double totals[CONTESTANTS] = {0};
+    lose_first(j, lost);
+    add_times(j, 1, ROUNDS, totals);
+    printf("| %u, %u | rebuild, %u of %u sources missing |", j->k, j->m, lost, j->k);
+    print_ratios(totals);
+}
+
+/* The mean over sets drawn at random. Where all packets at hand are all parities there is one set
+ * only: that one, but for the house family, which has it in the first table. */
+static void print_drawn_row(job *j, unsigned lost)
+{
+    bool one_set = lost == j->k && lost == j->m;
+    int sets = one_set ? 1 : DRAWN_SETS, rounds = one_set ? ROUNDS : DRAWN_ROUNDS, solved = 0;
+    double totals[CONTESTANTS] = {0};
+    if (one_set && j->family == WH_HOUSE) {
+        return;
+    }
+    for (int set = 0; set < sets; set++) {
+        lose_drawn(j, lost);
+        solved += has_even_rows(j) || has_even_columns(j);
+        add_times(j, 1, rounds, totals);
+    }
+    printf("| %u | %u, %u | rebuild, %u of %u sources missing | %d %% |", j->family, j->k, j->m,
+           lost, j->k, 100 * solved / sets);
+    print_ratios(totals);
+}
+
+typedef void row(job *j, unsigned lost);
+
+/* From `least` on: one, two, half and all that can be missing, each once. */
+static void print_rows(job *j, unsigned least, row *print_row)
+{
+    unsigned all = j->k < j->m ? j->k : j->m, half = j->k / 2;
+    for (unsigned lost = least; lost <= all; lost++) {
+        if (lost <= 2 || lost == half || lost == all) {
+            print_row(j, lost);
+        }
     }
 }
 
-static job make_job(unsigned k, unsigned m)
+static void print_first_lost(void)
 {
-    job j = {.k = k, .m = m, .lost = 1};
-    uint64_t state = 1;
-    must(wh_family_table(k, m, WH_HOUSE, j.table, m * k));
-    for (unsigned a = 0; a < m; a++) {
-        wh_measured parity = wh_packet_length(k, m, LENGTH, j.table, m * k, k + a + 1);
-        must(parity.number);
-        j.parity_bytes[a] = (size_t)parity.length;
+    print_head("| k, m | |", "|---|---|");
+    for (int i = 0; i < SHAPES; i++) {
+        job j = make_job(shapes[i], WH_HOUSE);
+        print_encode_row(&j);
+        print_rows(&j, 1, print_rebuild_row);
     }
-    wh_measured all = wh_parities_length(k, m, LENGTH, j.table, m * k);
-    must(all.number);
-    j.parities_bytes = (size_t)all.length;
-    for (size_t i = 0; i < sizeof j.sources; i++) {
-        state = state * 6364136223846793005u + 1442695040888963407u;
-        j.sources[i] = (uint8_t)(state >> 56);
-    }
-    return j;
 }
 
-/* One, two, half and all that can be missing, each once. */
-static void print_rows(unsigned k, unsigned m)
+static void print_drawn_lost(void)
 {
-    job j = make_job(k, m);
-    unsigned all = k < m ? k : m, half = k / 2;
-    print_row(&j, 0);
-    for (j.lost = 1; j.lost <= all; j.lost++) {
-        if (j.lost <= 2 || j.lost == half || j.lost == all) {
-            print_row(&j, 1);
+    printf("\nSets of packets drawn at random, the mean of %d, for families 1 to %d.\n"
+           "Solved at once are those with even rows or columns.\n",
+           DRAWN_SETS, WH_FAMILIES);
+    print_head("| family | k, m | | solved at once |", "|---|---|---|---|");
+    for (unsigned family = 1; family <= WH_FAMILIES; family++) {
+        for (int i = 0; i < SHAPES; i++) {
+            job j = make_job(shapes[i], family);
+            print_rows(&j, 2, print_drawn_row);
         }
     }
 }
 
 int main(void)
 {
-    printf("Windhawker's time divided by the other's: below 1 Windhawker is faster.\n\n");
-    printf("| k, m | |");
-    for (int i = 1; i < CONTESTANTS; i++) {
-        printf(" %s |", contestants[i]->name);
-    }
-    printf("\n|---|---|");
-    for (int i = 1; i < CONTESTANTS; i++) {
-        printf("---|");
-    }
-    printf("\n");
-    print_rows(2, 2);
-    print_rows(4, 4);
-    print_rows(6, 3);
-    print_rows(WH_MAX_K, WH_MAX_M);
+    printf("Windhawker's time divided by the other's: below 1 Windhawker is faster.\n");
+    print_first_lost();
+    print_drawn_lost();
     return 0;
 }

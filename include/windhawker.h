@@ -156,7 +156,7 @@
 
 #include "windhawker_limits.h"
 
-#define WH_VERSION "0.6.0"
+#define WH_VERSION "0.6.1"
 #define WH_VERSION_MAJOR 0
 #define WH_VERSION_MINOR 6
 

@@ -1,14 +1,17 @@
 -- Laws of an opened call: from its checks to its shape, its table and its desk. Assumes nothing.
-use mathlib.Core.Path.{_≡_, sym, ap, _∙_, subst}
+use mathlib.Core.Path.{_≡_, refl, sym, ap, _∙_, subst}
 use mathlib.Core.List.{List, _++_}
 use Prim.Native.Nat.{ℕ, _+_, _/_, _^_}
+use lib.ListN.{length}
+use Rattle.table.specs.Limits.{cells}
 use Rattle.table.specs.Desk.{Desk, desk, mark, sourceBits, sourceBytes}
 use Rattle.table.specs.Table.{Within, Ready, deskOf}
-use Rattle.table.specs.Checks.{Checks, Checked, Answered, markedChecks}
+use Rattle.table.specs.Checks.{Checks, Checked, Answered, shapeChecks, markedChecks}
 use Rattle.table.specs.declared.Shape.{Shape}
 use Rattle.table.proofs.CheckLaws.{Numbered, zero-checked, stops, goes}
 use Rattle.table.proofs.AnswerLaws.{answer-stops, answer-goes}
-use Rattle.table.proofs.ShapeLaws.{marked-below}
+use Rattle.table.proofs.ShapeLaws.{shaped, marked-below}
+use Rattle.table.proofs.TableLaws.{CellsAre, laid-entries, laid-low}
 use Rattle.checks.specs.Opening.{Opens}
 use Rattle.checks.specs.declared.Opened.{Opened}
 
@@ -21,6 +24,23 @@ refused-opens {cs} c h e w = record {
   formed = λ z. absurd (h (sym e ∙ z));
   held = λ z. absurd (h (sym e ∙ z));
 }
+
+-- an accepted call whose table was laid out
+pub laid-opens : (k m l : ℕ) (table : List ℕ) (marks : ℕ) (shifts : List ℕ) → Checked (shapeChecks k m l table) 0 → length shifts ≡ cells → CellsAre k table shifts
+    → Opens (shapeChecks k m l table) k m l table marks (record {
+      number = 0;
+      shape = record { k = k; m = m; length = l; marks = marks };
+      table = record { k = k; m = m; shifts = shifts };
+    })
+laid-opens k m l table marks shifts c all are =
+    let z = shaped k m l table c in
+    let low = laid-low k table shifts all (z .low) are in
+    record {
+      numbered = c;
+      within = record { k-low = z .k-low; k-high = z .k-high; m-low = z .m-low; m-high = z .m-high; l-low = z .l-low; l-high = z .l-high; low = low };
+      formed = λ _. refl;
+      held = λ _. record { k-is = refl; m-is = refl; laid = laid-entries k m table shifts (z .k-high) (z .m-high) (z .size) all are; low = low };
+    }
 
 module _ (k m l : ℕ) (table : List ℕ) where
   -- checks of the shape that came are checks of the numbers

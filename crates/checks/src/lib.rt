@@ -174,7 +174,7 @@ fn refused(number: u64) -> Opened
 }
 
 // 1, 2 and 3.
-fn shape_number(k: u64, m: u64, l: u64, table: &[u8]) -> u64
+pub fn shape_number(k: u64, m: u64, l: u64, table: &[u8]) -> u64
     ensures { λ r. ⌜ Checked (shapeChecks k m l (now (table .entry))) r ⌝ }
 {
     let size = size_number(k, m);

@@ -1,30 +1,30 @@
 // The code of the papers: each parity is the sum of the sources, shifted up by the entries of its row.
+use rows::ROW_WORDS;
 use table::Shape;
 use table::Table;
 ghost use mathlib.Core.Path.{_≡_};
 ghost use lib.ListN.{length};
-ghost use Prim.Native.Nat.{ℕ, _+_, _-_, _*_, _%_, _≤_, _<_};
-ghost use Rattle.bits.specs.Bits.{bitAt, up, Noughts};
-ghost use Rattle.table.specs.Desk.{sourcesBytes, packetBits, packetBytes, paritiesBytes};
-ghost use Rattle.table.specs.Table.{Within, deskOf};
-ghost use Rattle.code.specs.Code.{sumOf, sourcesOf, packetOf, paritiesOf};
-ghost use Rattle.code.specs.Rows.{RowsAdded};
+ghost use Prim.Native.Nat.{_+_, _≤_, _<_};
+ghost use Rattle.rows.specs.Rows.{HasRow, AddedTo, Stored};
+ghost use Rattle.table.specs.Limits.{longest};
+ghost use Rattle.table.specs.Desk.{sourcesBytes, packetBytes, paritiesBytes};
+ghost use Rattle.table.specs.Table.{Within, Reaches, deskOf};
+ghost use Rattle.code.specs.Code.{sumOf, parity, sourcesOf, packetOf, paritiesOf};
 
-// Adds every source, shifted up by its entry of row a, into the parity that starts at byte `start` of dst.
+// Adds every source, shifted up by its entry of row a of the table, into row `at` of rows.
 pub fn add_row(
     s: Shape,
     shifts: &[u8; Table::CELLS],
     a: usize,
     sources: &[u8],
-    dst: &mut [u8],
-    start: usize,
+    rows: &mut [u64],
+    at: usize,
 )
     requires { ⌜ Within s (now shifts) ⌝ }
     requires { ⌜ a < s .m ⌝ }
     requires { ⌜ sourcesBytes (deskOf s (now shifts)) ≤ length (now sources) ⌝ }
-    requires { ⌜ 8 * start + packetBits (deskOf s (now shifts)) (s .k + a) ≤ 8 * length (now dst) ⌝ }
-    ensures { λ _. ⌜ ((p : ℕ) → bitAt (now (dst .exit)) p
-        ≡ (bitAt (now (dst .entry)) p + up (8 * start) (sumOf (deskOf s (now (shifts .entry))) (sourcesOf (deskOf s (now (shifts .entry))) (now (sources .entry))) a) p) % 2) ⌝ }
+    requires { ⌜ HasRow (now rows) at ⌝ }
+    ensures { λ _. ⌜ AddedTo at (sumOf (deskOf s (now (shifts .entry))) (sourcesOf (deskOf s (now (shifts .entry))) (now (sources .entry))) a) (now (rows .entry)) (now (rows .exit)) ⌝ }
 {
     let bytes = table::source_bytes(s);
     let mut b = 0;
@@ -32,37 +32,55 @@ pub fn add_row(
         let from = b * bytes;
         let end = from + bytes;
         let e = table::shift_of(s, shifts, a, b);
-        shift::shift_add(dst, start, &sources[from..end], e);
+        rows::bytes::add_bytes(rows, at, &sources[from..end], e);
         b += 1;
     }
 }
 
-// Adds every row into its parity, one parity after the other, into a buffer of noughts.
-pub fn add_rows(s: Shape, shifts: &[u8; Table::CELLS], sources: &[u8], dst: &mut [u8])
+// Parity a of the sources, added up in a row of its own and put into the n bytes of out from byte `from` on.
+fn put_parity(
+    s: Shape,
+    shifts: &[u8; Table::CELLS],
+    a: usize,
+    sources: &[u8],
+    out: &mut [u8],
+    from: usize,
+    n: usize,
+)
     requires { ⌜ Within s (now shifts) ⌝ }
+    requires { ⌜ a < s .m ⌝ }
     requires { ⌜ sourcesBytes (deskOf s (now shifts)) ≤ length (now sources) ⌝ }
-    requires { ⌜ length (now dst) ≡ paritiesBytes (deskOf s (now shifts)) ⌝ }
-    requires { ⌜ Noughts (now dst) ⌝ }
-    ensures { λ _. ⌜ RowsAdded (deskOf s (now (shifts .entry))) (now (sources .entry)) (s .m) (now (dst .exit)) ⌝ }
+    requires { ⌜ n ≤ longest ⌝ }
+    requires { ⌜ from + n ≤ length (now out) ⌝ }
+    ensures { λ _. ⌜ Stored from n (parity (deskOf s (now (shifts .entry))) (sourcesOf (deskOf s (now (shifts .entry))) (now (sources .entry))) a) (now (out .entry)) (now (out .exit)) ⌝ }
 {
-    let mut start = 0;
-    let mut a = 0;
-    while a < s.m {
-        add_row(s, shifts, a, sources, dst, start);
-        start += table::packets::packet_bytes(s, shifts, s.k + a);
-        a += 1;
-    }
+    let mut row = [0u64; ROW_WORDS];
+    add_row(s, shifts, a, sources, &mut row, 0);
+    rows::bytes::store(&row, 0, out, from, n);
 }
 
 // Every parity into out, which is as long as they are.
-pub fn encode_parities(s: Shape, shifts: &[u8; Table::CELLS], sources: &[u8], out: &mut [u8])
+pub fn encode_parities(
+    s: Shape,
+    shifts: &[u8; Table::CELLS],
+    reaches: &[u8; Table::PARITIES],
+    sources: &[u8],
+    out: &mut [u8],
+)
     requires { ⌜ Within s (now shifts) ⌝ }
+    requires { ⌜ Reaches s (now shifts) (now reaches) ⌝ }
     requires { ⌜ length (now sources) ≡ sourcesBytes (deskOf s (now shifts)) ⌝ }
     requires { ⌜ length (now out) ≡ paritiesBytes (deskOf s (now shifts)) ⌝ }
     ensures { λ _. ⌜ now (out .exit) ≡ paritiesOf (deskOf s (now (shifts .entry))) (now (sources .entry)) ⌝ }
 {
-    bits::clear(out);
-    add_rows(s, shifts, sources, out);
+    let mut start = 0;
+    let mut a = 0;
+    while a < s.m {
+        let bytes = table::packets::bytes_of(s, shifts, reaches, s.k + a);
+        put_parity(s, shifts, a, sources, out, start, bytes);
+        start += bytes;
+        a += 1;
+    }
     bits::known(out);
 }
 
@@ -88,7 +106,6 @@ pub fn encode_packet(
         bits::copy_front(out, &sources[from..end]);
         return;
     }
-    bits::clear(out);
-    add_row(s, shifts, i - k, sources, out, 0);
+    put_parity(s, shifts, i - k, sources, out, 0, out.len());
     bits::known(out);
 }

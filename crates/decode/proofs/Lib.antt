@@ -1,5 +1,7 @@
 pub mod SourceBits
 pub mod MissingSums
 pub mod StepLaws
-pub mod LiftSteps
+pub mod ListedSums
+pub mod LoadLaws
+pub mod SolvingLaws
 pub mod EndLaws

@@ -1,51 +1,71 @@
 -- One bit of a source: read as it stands in a parity, and set where there was none. Assumes nothing.
-use mathlib.Core.Path.{_≡_, sym, ap₂, _∙_, fun-ext}
+use mathlib.Core.Path.{_≡_, refl, sym, ap, _∙_, fun-ext}
 use mathlib.Core.List.{List}
 use Prim.Native.Nat.{ℕ, _+_, _-_, _*_, _%_, _≤_, _<_}
 use native.Mathlib.Omega.{arith}
 use native.Mathlib.Decide.{ℕ-discrete, decLt}
+use borrow.Author.Tests.{lt-ltb, le-ltb}
 use Rattle.bits.specs.Sums.{oneAt}
-use Rattle.bits.specs.Bits.{bitAt}
 use Rattle.bits.proofs.SumLaws.{oneAt-same, oneAt-other}
 use Rattle.bits.proofs.UpLaws.{up-low, up-from}
-use Rattle.table.specs.Desk.{Desk, sourcePlace}
-use Rattle.code.specs.Code.{sourcesOf, Short}
-use Rattle.code.proofs.CodeLaws.{source-lt, source-past}
+use Rattle.table.specs.Desk.{Desk}
+use Rattle.rows.specs.Rows.{rowBits, rowIn, AddedTo}
+use Rattle.rows.proofs.RowLaws.{row-lt, row-past, added-here, added-other}
 use Rattle.walk.specs.Read.{put}
 use Rattle.walk.proofs.ReadLaws.{put-same, put-bit, put-source}
-use Rattle.survivors.proofs.CellLaws.{one-cell}
-use Rattle.survivors.proofs.SourceLaws.{source-at}
-use Rattle.decode.specs.Data.{inRow}
+use Rattle.survivors.specs.Remainders.{sourceIn}
+use Rattle.survivors.proofs.RestLaws.{source-in}
+use Rattle.decode.specs.Data.{inRow, SameRests}
 
 module _ (D : Desk) where
-  open Desk D using (k, bits, bytes, shift)
+  open Desk D using (k, shift)
 
-  -- bit q of source c as it stands in parity a, e its shift there: below the source, past it, and in between
-  module _ (x : List ℕ) (a c q e : ℕ) (is : e ≡ shift a c) where
-    pub shifted-low : q < e → 0 ≡ inRow D (sourcesOf D x) c a q
-    shifted-low l = sym (up-low (shift a c) (sourcesOf D x c) q (omega arith))
-
-    pub shifted-past : Short D x → c < k → e ≤ q → bits ≤ q - e → 0 ≡ inRow D (sourcesOf D x) c a q
-    shifted-past short lc l h = sym (up-from (shift a c) (sourcesOf D x c) q (omega arith) ∙ short c (q - shift a c) lc (omega arith))
-
-    pub shifted-here : (place : ℕ) → place ≡ sourcePlace D c → e ≤ q → q - e < 8 * bytes → bitAt x (place + (q - e)) ≡ inRow D (sourcesOf D x) c a q
-    shifted-here place w l h =
-        ap₂ (λ y z. bitAt x (y + (q - z))) w is ∙ sym (source-at D x c (q - shift a c) (omega arith))
-        ∙ sym (up-from (shift a c) (sourcesOf D x c) q (omega arith))
-
-  -- a bit that was nought becomes v
-  pub source-put : (x x′ : List ℕ) (b g v : ℕ) → g < 8 * bytes → v < 2 → sourcesOf D x b g ≡ 0
-      → ((p : ℕ) → bitAt x′ p ≡ (bitAt x p + v * oneAt (sourcePlace D b + g) p) % 2) → sourcesOf D x′ ≡ put (sourcesOf D x) b g v
-  source-put x x′ b g v lg lv z h = fun-ext λ c. fun-ext λ p. elim (decLt p (8 * bytes)) [
-    | no l ↦ source-past D x′ c p (omega arith) ∙ sym (put-bit (sourcesOf D x) b g v c p (omega arith) ∙ source-past D x c p (omega arith))
-    | yes l ↦ source-at D x′ c p l ∙ h (sourcePlace D c + p) ∙ rw (one-cell (8 * bytes) b g c p lg l, ← source-at D x c p l) (here c p)
+  pub source-lt : (rows : List ℕ) (c p : ℕ) → sourceIn D rows c p < 2
+  unfolding sourceIn
+  source-lt rows c p = elim (decLt c k) [
+    | yes l ↦ rw (lt-ltb c k l) (row-lt rows c p)
+    | no l ↦ rw (le-ltb c k (omega arith)) (omega arith)
   ]
-    where
-      here : (c p : ℕ) → (sourcesOf D x c p + v * (oneAt b c * oneAt g p)) % 2 ≡ put (sourcesOf D x) b g v c p
-      here c p = elim (ℕ-discrete b c) [
-        | no ne ↦ rw (put-source (sourcesOf D x) b g v c p ne, oneAt-other b c ne) (omega (arith, source-lt D x c p))
-        | yes e ↦ elim (ℕ-discrete g p) [
-          | no nf ↦ rw (put-bit (sourcesOf D x) b g v c p nf, oneAt-other g p nf) (omega (arith, source-lt D x c p))
-          | yes f ↦ rw (put-same (sourcesOf D x) b g v c p e f, oneAt-same b c e, oneAt-same g p f, ← e, ← f, z) (omega arith)
+
+  -- past the sources there are no bits
+  pub source-none : (rows : List ℕ) (c p : ℕ) → k ≤ c → sourceIn D rows c p ≡ 0
+  unfolding sourceIn
+  source-none rows c p l = rw (le-ltb c k l)
+
+  -- bit q of source c as it stands in parity a, e its shift there: below the source, and from it on
+  module _ (rows : List ℕ) (a c q e : ℕ) (is : e ≡ shift a c) where
+    pub shifted-low : q < e → 0 ≡ inRow D (sourceIn D rows) c a q
+    shifted-low l = sym (up-low (shift a c) (sourceIn D rows c) q (omega arith))
+
+    pub shifted-here : c < k → e ≤ q → rowIn rows c (q - e) ≡ inRow D (sourceIn D rows) c a q
+    shifted-here lc l = sym (up-from (shift a c) (sourceIn D rows c) q (omega arith) ∙ source-in D rows c (q - shift a c) lc ∙ ap (λ x. rowIn rows c (q - x)) (sym is))
+
+  -- a bit that was nought becomes v, and what is left of the parities is as it was
+  module _ (rows rows′ : List ℕ) (b g v : ℕ) (lb : b < k) (lg : g < rowBits) (lv : v < 2) (z : sourceIn D rows b g ≡ 0) (h : AddedTo b (λ q. v * oneAt g q) rows rows′) where
+    here : (p : ℕ) → p < rowBits → sourceIn D rows′ b p ≡ put (sourceIn D rows) b g v b p
+    here p lp =
+        source-in D rows′ b p lb ∙ added-here b _ rows rows′ h p lp ∙ elim (ℕ-discrete g p) [
+          | yes f ↦ rw (put-same (sourceIn D rows) b g v b p refl f, oneAt-same g p f, ← f, sym (source-in D rows b g lb) ∙ z) (omega arith)
+          | no nf ↦ rw (put-bit (sourceIn D rows) b g v b p nf, oneAt-other g p nf) (omega (arith, row-lt rows b p, source-in D rows b p lb))
         ]
-      ]
+
+    pub source-put : sourceIn D rows′ ≡ put (sourceIn D rows) b g v
+    source-put = fun-ext λ c. fun-ext λ p. elim (ℕ-discrete b c) [
+      | no ne ↦ other c p ne ∙ sym (put-source (sourceIn D rows) b g v c p ne)
+      | yes e ↦ rw (← e) (elim (decLt p rowBits) [
+        | yes l ↦ here p l
+        | no l ↦ past rows′ p (omega arith) ∙ sym (put-bit (sourceIn D rows) b g v b p (λ f. omega arith) ∙ past rows p (omega arith))
+      ])
+    ]
+      where
+        past : (x : List ℕ) (p : ℕ) → rowBits ≤ p → sourceIn D x b p ≡ 0
+        past x p l = source-in D x b p lb ∙ row-past x b p l
+
+        other : (c p : ℕ) → (b ≡ c → ⊥) → sourceIn D rows′ c p ≡ sourceIn D rows c p
+        other c p ne = elim (decLt c k) [
+          | yes l ↦ source-in D rows′ c p l ∙ added-other b _ rows rows′ h c p ne ∙ sym (source-in D rows c p l)
+          | no l ↦ source-none rows′ c p (omega arith) ∙ sym (source-none rows c p (omega arith))
+        ]
+
+    pub rests-kept : SameRests D rows rows′
+    rests-kept a q = added-other b _ rows rows′ h (k + a) q (λ e. omega arith)

@@ -1,44 +1,38 @@
-// The half of rebuild that touches data: the packets at hand put in their places, and the missing sources uncovered, bit by bit or, where one is missing, at once.
+// The half of rebuild that touches data: each packet at hand put into its row, and the missing sources uncovered, at once where that can be, else bit by bit.
+pub mod solving;
 pub mod steps;
 
 use crate::steps::DecodeAnswer;
-use survivors::ROWS;
 use table::Shape;
 use table::Table;
 ghost use mathlib.Core.Path.{_≡_};
+ghost use mathlib.Core.Bool.{true};
 ghost use lib.ListN.{length};
-ghost use Rattle.bits.specs.Bits.{Bytes, Noughts};
-ghost use Rattle.table.specs.Limits.{allSources};
-ghost use Rattle.table.specs.Table.{Ready, Survivors, deskOf};
-ghost use Rattle.decode.specs.Data.{Blank, Decoded, ReadBack};
+ghost use Prim.Native.Nat.{ℕ};
+ghost use Rattle.rows.specs.Rows.{rowIn};
+ghost use Rattle.table.specs.Table.{Ready, Reaches, Survivors, deskOf};
+ghost use Rattle.survivors.specs.Remainders.{Roomy, sourcesIn, InBytes, NoRest};
+ghost use Rattle.decode.specs.Data.{Blank, Uncovered, ReadBack};
 
-// Uncovers the missing sources: at once where one is missing and one parity at hand, else step by step.
-fn uncover(
-    s: Shape,
-    shifts: &[u8; Table::CELLS],
-    sources: &mut [u8; Table::ALL_SOURCES],
-    rests: &mut [u8; ROWS],
-) -> DecodeAnswer
+// Uncovers the missing sources: solved for at once where they are even, else step by step.
+fn uncover(s: Shape, shifts: &[u8; Table::CELLS], rows: &mut [u64]) -> DecodeAnswer
     requires { ⌜ Ready s (now shifts) ⌝ }
-    requires { ⌜ Blank (deskOf s (now shifts)) (now sources) ⌝ }
-    ensures { λ r. ⌜ Decoded (deskOf s (now (shifts .entry))) (r .count) (r .whole) (now (sources .entry)) (now (rests .entry)) (now (sources .exit)) (now (rests .exit)) ⌝ }
+    requires { ⌜ Roomy (now rows) ⌝ }
+    requires { ⌜ Blank (deskOf s (now shifts)) (now rows) ⌝ }
+    ensures { λ r. ⌜ Uncovered (deskOf s (now (shifts .entry))) (r .count) (r .whole) (now (rows .entry)) (now (rows .exit)) ⌝ }
 {
-    let p = lift::only_pair(s);
-    if p.parity < s.m {
-        lift::lift(s, shifts, p, sources, rests);
-        return DecodeAnswer {
-            count: table::source_bits(s) as u64,
-            whole: true,
-        };
+    let missing = search::list_missing(s);
+    let n = missing.count;
+    let p = plan::find_plan(s, shifts, &missing.columns, n);
+    if p.way == plan::Way::NONE {
+        return crate::steps::decode(s, shifts, &missing.columns, n, rows);
     }
-    crate::steps::decode(s, shifts, sources, rests)
-}
-
-// No code: the sources are bytes, and how many.
-fn known(sources: &[u8; Table::ALL_SOURCES])
-    ensures { λ _. ⌜ Bytes (now (sources .entry)) × (length (now (sources .entry)) ≡ allSources) ⌝ }
-{
-    bits::known(sources);
+    let rises = p.rises;
+    crate::solving::solve_missing(s, shifts, p.way, &p.rows, &missing.columns, &rises, n, rows);
+    DecodeAnswer {
+        count: n as u64 * table::source_bits(s) as u64,
+        whole: true,
+    }
 }
 
 // How many steps were made; whether they finish all missing sources, and then whether any sources encode to the packets.
@@ -48,28 +42,30 @@ pub struct ReadAnswer {
     pub consistent: bool,
 }
 
-// Reads the sources back from the packets.
+// Reads the sources back from the packets, into rows that are noughts.
 pub fn read_back(
     s: Shape,
     shifts: &[u8; Table::CELLS],
+    reaches: &[u8; Table::PARITIES],
     packets: &[u8],
-    sources: &mut [u8; Table::ALL_SOURCES],
+    rows: &mut [u64],
 ) -> ReadAnswer
     requires { ⌜ Ready s (now shifts) ⌝ }
+    requires { ⌜ Reaches s (now shifts) (now reaches) ⌝ }
     requires { ⌜ Survivors s (now shifts) (now packets) ⌝ }
-    requires { ⌜ Noughts (now sources) ⌝ }
-    ensures { λ r. ⌜ ReadBack (deskOf s (now (shifts .entry))) (now (packets .entry)) (r .count) (r .whole) (r .consistent) (now (sources .exit)) ⌝ }
-    ensures { λ r. ⌜ length (now (sources .exit)) ≡ allSources ⌝ }
+    requires { ⌜ Roomy (now rows) ⌝ }
+    requires { ⌜ ((i p : ℕ) → rowIn (now rows) i p ≡ 0) ⌝ }
+    ensures { λ r. ⌜ ReadBack (deskOf s (now (shifts .entry))) (now (packets .entry)) (r .count) (r .whole) (r .consistent) (sourcesIn (deskOf s (now (shifts .entry))) (now (rows .exit))) ⌝ }
+    ensures { λ r. ⌜ InBytes (deskOf s (now (shifts .entry))) (now (rows .exit)) × (r .consistent ≡ true → NoRest (deskOf s (now (shifts .entry))) (now (rows .exit))) ⌝ }
 {
-    let mut rests = [0u8; ROWS];
-    survivors::place_packets(s, shifts, packets, sources, &mut rests);
-    survivors::add_to_rows(s, shifts, sources, &mut rests);
-    let d = uncover(s, shifts, sources, &mut rests);
-    known(sources);
+    survivors::place_packets(s, shifts, reaches, packets, rows);
+    survivors::add_to_rests(s, shifts, s.marks, s.marks, rows);
+    let d = uncover(s, shifts, rows);
+    survivors::add_to_rests(s, shifts, s.marks, u64::MAX - s.marks, rows);
     bits::known(packets);
     let count = d.count;
     let whole = d.whole;
-    let consistent = survivors::all_clear(&rests);
+    let consistent = rows::bytes::clear_rows(rows, s.k, s.m);
     ReadAnswer {
         count,
         whole,

@@ -18,26 +18,34 @@ fn all_parities(s: Shape, shifts: &[u8; Table::CELLS], sources: &[u8], out: &mut
     requires { ⌜ Within s (now shifts) ⌝ }
     ensures { λ r. ⌜ AllGiven (deskOf s (now (shifts .entry))) (now (sources .entry)) (now (out .entry)) r (now (out .exit)) ⌝ }
 {
-    let room = table::packets::parities_bytes(s, shifts);
+    let mut reaches = [0u8; Table::PARITIES];
+    table::packets::put_reaches(s, shifts, &mut reaches);
+    let room = table::packets::bytes_of_parities(s, shifts, &reaches);
     let number = checks::lengths_number(sources, table::packets::sources_bytes(s), out, room);
     if number != 0 {
         return number;
     }
-    code::encode_parities(s, shifts, sources, out);
+    code::encode_parities(s, shifts, &reaches, sources, out);
     0
 }
 
-// All parities of the sources, in order.
+// All parities of the sources, in order. The table is laid out where it is used: a copy of bytes that were just written would wait for them.
 pub fn encode_all(k: u64, m: u64, l: u64, table: &[u8], sources: &[u8], out: &mut [u8]) -> u64
     ensures { λ r. ⌜ EncodedAll k m l (now (table .entry)) (now (sources .entry)) (now (out .entry)) r (now (out .exit)) ⌝ }
 {
-    let o = checks::open_shape(k, m, l, table, 0);
-    if o.number != 0 {
-        return o.number;
+    let number = checks::shape_number(k, m, l, table);
+    if number != 0 {
+        return number;
     }
-    let t = o.table;
-    let shifts = t.shifts;
-    all_parities(o.shape, &shifts, sources, out)
+    let mut shifts = [0u8; Table::CELLS];
+    table::lay_out(k as usize, m as usize, table, &mut shifts);
+    let s = Shape {
+        k: k as usize,
+        m: m as usize,
+        length: l as usize,
+        marks: 0,
+    };
+    all_parities(s, &shifts, sources, out)
 }
 
 // A number with no length.
@@ -56,7 +64,8 @@ fn one_length(s: Shape, shifts: &[u8; Table::CELLS], packet: u64) -> LengthAnswe
     if which != 0 {
         return no_length(which);
     }
-    let bytes = table::packets::packet_bytes(s, shifts, packet as usize - 1);
+    let reaches = table::packets::reaches(s, shifts);
+    let bytes = table::packets::bytes_of(s, shifts, &reaches, packet as usize - 1);
     LengthAnswer {
         number: 0,
         length: bytes as u64,
@@ -86,7 +95,8 @@ pub fn parities_length(k: u64, m: u64, l: u64, table: &[u8]) -> LengthAnswer
     }
     let t = o.table;
     let shifts = t.shifts;
-    let bytes = table::packets::parities_bytes(o.shape, &shifts);
+    let reaches = table::packets::reaches(o.shape, &shifts);
+    let bytes = table::packets::bytes_of_parities(o.shape, &shifts, &reaches);
     LengthAnswer {
         number: 0,
         length: bytes as u64,
@@ -103,7 +113,8 @@ pub fn survivors_length(k: u64, m: u64, l: u64, table: &[u8], marks: u64) -> Len
     }
     let t = o.table;
     let shifts = t.shifts;
-    let bytes = table::packets::survivors_bytes(o.shape, &shifts);
+    let reaches = table::packets::reaches(o.shape, &shifts);
+    let bytes = table::packets::bytes_of_survivors(o.shape, &shifts, &reaches);
     LengthAnswer {
         number: 0,
         length: bytes as u64,

@@ -35,7 +35,8 @@ fn buffers_number(s: Shape, shifts: &[u8; Table::CELLS], survivors: &[u8], rebui
     requires { ⌜ Within s (now shifts) ⌝ }
     ensures { λ r. ⌜ Checked (buffersChecks (deskOf s (now (shifts .entry))) (now (survivors .entry)) (now (rebuilt .entry))) r ⌝ }
 {
-    if survivors.len() != table::packets::survivors_bytes(s, shifts) {
+    let reaches = table::packets::reaches(s, shifts);
+    if survivors.len() != table::packets::bytes_of_survivors(s, shifts, &reaches) {
         return Number::INPUT;
     }
     if rebuilt.len() != table::packets::sources_bytes(s) {

@@ -1,3 +1,4 @@
 pub mod CheckParts
+pub mod PacketRows
 pub mod OneAnswer
 pub mod NoneMissing

@@ -3,40 +3,52 @@ use table::Shape;
 use table::Table;
 ghost use mathlib.Core.Path.{_≡_};
 ghost use mathlib.Core.Bool.{true};
-ghost use lib.ListN.{length, take};
-ghost use Prim.Native.Nat.{ℕ, _+_, _≤_, _<_};
-ghost use Rattle.table.specs.Desk.{mark, sourcesBytes, packetBytes};
-ghost use Rattle.table.specs.Table.{Within, Ready, Survivors, deskOf};
+ghost use lib.ListN.{length};
+ghost use Prim.Native.Nat.{ℕ, _+_, _<_};
+ghost use Rattle.table.specs.Desk.{mark, packetBytes};
+ghost use Rattle.table.specs.Table.{Within, Ready, Reaches, Survivors, deskOf};
 ghost use Rattle.code.specs.Code.{packetOf};
+ghost use Rattle.survivors.specs.Remainders.{Roomy, sourcesIn, InBytes, NoRest};
 ghost use Rattle.packet.specs.Stages.{ExactlyK, PacketDecided, PacketLent, PacketNamed};
 ghost use Rattle.packet.specs.Promise.{PacketMade};
 
-// Packet i, from 0, of the sources that stand first in a longer list, into out, which is as long as it is.
-fn encode_first(s: Shape, shifts: &[u8; Table::CELLS], i: usize, sources: &[u8], out: &mut [u8])
+// Packet i, from 0, of the sources in the rows, into out, which is as long as it is: a source stands in its row, and a parity is added up in its own.
+fn encode_rows(s: Shape, shifts: &[u8; Table::CELLS], i: usize, rows: &mut [u64], out: &mut [u8])
     requires { ⌜ Within s (now shifts) ⌝ }
     requires { ⌜ i < s .k + s .m ⌝ }
-    requires { ⌜ sourcesBytes (deskOf s (now shifts)) ≤ length (now sources) ⌝ }
+    requires { ⌜ Roomy (now rows) ⌝ }
+    requires { ⌜ InBytes (deskOf s (now shifts)) (now rows) ⌝ }
+    requires { ⌜ NoRest (deskOf s (now shifts)) (now rows) ⌝ }
     requires { ⌜ length (now out) ≡ packetBytes (deskOf s (now shifts)) i ⌝ }
-    ensures { λ _. ⌜ now (out .exit) ≡ packetOf (deskOf s (now (shifts .entry))) (take (sourcesBytes (deskOf s (now (shifts .entry)))) (now (sources .entry))) i ⌝ }
+    ensures { λ _. ⌜ now (out .exit) ≡ packetOf (deskOf s (now (shifts .entry))) (sourcesIn (deskOf s (now (shifts .entry))) (now (rows .entry))) i ⌝ }
 {
-    let n = table::packets::sources_bytes(s);
-    code::encode_packet(s, shifts, i, &sources[..n], out);
+    survivors::add_to_rests(s, shifts, 1 << i, u64::MAX, rows);
+    rows::bytes::store(rows, i, out, 0, out.len());
+    bits::known(out);
 }
 
 // 8, 9 and 10, and packet i, from 0, of the sources read back, into out, which is as long as it is; refused, out as it was.
-fn read_back(s: Shape, shifts: &[u8; Table::CELLS], packets: &[u8], i: usize, out: &mut [u8]) -> u64
+fn read_back(
+    s: Shape,
+    shifts: &[u8; Table::CELLS],
+    reaches: &[u8; Table::PARITIES],
+    packets: &[u8],
+    i: usize,
+    out: &mut [u8],
+) -> u64
     requires { ⌜ Ready s (now shifts) ⌝ }
+    requires { ⌜ Reaches s (now shifts) (now reaches) ⌝ }
     requires { ⌜ Survivors s (now shifts) (now packets) ⌝ }
     requires { ⌜ i < s .k + s .m ⌝ }
     requires { ⌜ length (now out) ≡ packetBytes (deskOf s (now shifts)) i ⌝ }
     ensures { λ r. ⌜ PacketDecided (deskOf s (now (shifts .entry))) (now (packets .entry)) i (now (out .entry)) r (now (out .exit)) ⌝ }
 {
-    let mut sources = [0u8; Table::ALL_SOURCES];
-    let r = rebuild::recover(s, shifts, packets, &mut sources);
+    let mut rows = [0u64; survivors::WORDS];
+    let r = rebuild::recover(s, shifts, reaches, packets, &mut rows);
     if r.number != 0 {
         return r.number;
     }
-    encode_first(s, shifts, i, &sources, out);
+    encode_rows(s, shifts, i, &mut rows, out);
     0
 }
 
@@ -52,13 +64,14 @@ fn packet_of_any(
     requires { ⌜ i < s .k + s .m ⌝ }
     ensures { λ r. ⌜ PacketLent (deskOf s (now (shifts .entry))) (now (packets .entry)) i (now (out .entry)) r (now (out .exit)) ⌝ }
 {
-    let needed = table::packets::survivors_bytes(s, shifts);
-    let room = table::packets::packet_bytes(s, shifts, i);
+    let reaches = table::packets::reaches(s, shifts);
+    let needed = table::packets::bytes_of_survivors(s, shifts, &reaches);
+    let room = table::packets::bytes_of(s, shifts, &reaches, i);
     let number = checks::lengths_number(packets, needed, out, room);
     if number != 0 {
         return number;
     }
-    read_back(s, shifts, packets, i, out)
+    read_back(s, shifts, &reaches, packets, i, out)
 }
 
 // The same where k packets are at hand and no source is missing: they are the sources, and 8, 9 and 10 cannot occur.
@@ -75,7 +88,8 @@ fn packet_of_sources(
     requires { ⌜ i < s .k + s .m ⌝ }
     ensures { λ r. ⌜ PacketLent (deskOf s (now (shifts .entry))) (now (packets .entry)) i (now (out .entry)) r (now (out .exit)) ⌝ }
 {
-    let room = table::packets::packet_bytes(s, shifts, i);
+    let reaches = table::packets::reaches(s, shifts);
+    let room = table::packets::bytes_of(s, shifts, &reaches, i);
     let number = checks::lengths_number(packets, table::packets::sources_bytes(s), out, room);
     if number != 0 {
         return number;
@@ -140,7 +154,5 @@ pub fn packet(
     if o.number != 0 {
         return o.number;
     }
-    let t = o.table;
-    let shifts = t.shifts;
-    packet_named(o.shape, &shifts, packets, wanted, out)
+    packet_named(o.shape, &o.table.shifts, packets, wanted, out)
 }

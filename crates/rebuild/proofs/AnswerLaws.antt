@@ -5,7 +5,8 @@ use mathlib.Core.Bool.{Bool, true, false}
 use mathlib.Core.List.{List}
 use Prim.Native.Nat.{ℕ, _<_}
 use native.Mathlib.Omega.{arith}
-use lib.ListN.{take}
+use lib.ListN.{length}
+use lib.Seq.{take-all}
 use Rattle.table.specs.Desk.{Desk, sourcesBytes}
 use Rattle.table.specs.Checks.{Answered}
 use Rattle.walk.specs.Ends.{Finishes}
@@ -58,12 +59,13 @@ module _ {D : Desk} {packets : List ℕ} {count : ℕ} {whole consistent : Bool}
       }
 
       -- 0: the steps that finish all missing sources, and the sources
-      pub recovered-done : consistent ≡ true → Recovered D packets 0 count (take (sourcesBytes D) sources)
-      recovered-done c =
+      pub recovered-done : length sources ≡ sourcesBytes D → consistent ≡ true → Recovered D packets 0 count sources
+      recovered-done size c =
           let found = B .some w .so c in
-          let X : EncodesTo D packets (take (sourcesBytes D) sources) = subst (EncodesTo D packets) (B .these w (found .0) (found .1)) (found .1) in
+          let these = B .these w (found .0) (found .1) ∙ take-all (sourcesBytes D) sources (omega arith) in
+          let X : EncodesTo D packets sources = subst (EncodesTo D packets) these (found .1) in
           record {
-            numbered = inr ((λ n. n count finishes), inr (t, inr ((λ n. n (take (sourcesBytes D) sources) X), refl)));
+            numbered = inr ((λ n. n count finishes), inr (t, inr ((λ n. n sources X), refl)));
             refused = λ n. absurd (n refl);
             done = λ _. (finishes, X);
           }

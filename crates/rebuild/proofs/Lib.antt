@@ -1,3 +1,4 @@
 pub mod AnswerLaws
+pub mod StoreLaws
 pub mod OneAnswer
 pub mod NoneMissing

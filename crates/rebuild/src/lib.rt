@@ -3,12 +3,14 @@ use table::Number;
 use table::Shape;
 use table::Table;
 ghost use mathlib.Core.Path.{_≡_};
-ghost use lib.ListN.{length, take};
-ghost use Prim.Native.Nat.{_≤_};
-ghost use Rattle.bits.specs.Bits.{Noughts};
-ghost use Rattle.table.specs.Limits.{allSources};
+ghost use mathlib.Core.List.{[]};
+ghost use lib.ListN.{length};
+ghost use Prim.Native.Nat.{ℕ, _≤_};
+ghost use Rattle.rows.specs.Rows.{rowIn};
+ghost use Rattle.table.specs.Limits.{maxK, maxLength};
 ghost use Rattle.table.specs.Desk.{sourcesBytes};
-ghost use Rattle.table.specs.Table.{Ready, Survivors, deskOf};
+ghost use Rattle.table.specs.Table.{Ready, Reaches, Survivors, deskOf};
+ghost use Rattle.survivors.specs.Remainders.{Roomy, sourcesIn, InBytes, NoRest};
 ghost use Rattle.rebuild.specs.Stages.{Recovered, RebuildMade, RebuildGiven};
 ghost use Rattle.rebuild.specs.Promise.{Rebuilt};
 
@@ -18,27 +20,30 @@ pub struct RebuildAnswer {
     pub count: u64,
 }
 
-// 8, 9 and 10, and the sources that encode to the packets.
+// 8, 9 and 10, and the sources that encode to the packets, in rows that were noughts; then nothing is left of any parity.
 pub fn recover(
     s: Shape,
     shifts: &[u8; Table::CELLS],
+    reaches: &[u8; Table::PARITIES],
     packets: &[u8],
-    sources: &mut [u8; Table::ALL_SOURCES],
+    rows: &mut [u64],
 ) -> RebuildAnswer
     requires { ⌜ Ready s (now shifts) ⌝ }
+    requires { ⌜ Reaches s (now shifts) (now reaches) ⌝ }
     requires { ⌜ Survivors s (now shifts) (now packets) ⌝ }
-    requires { ⌜ Noughts (now sources) ⌝ }
-    ensures { λ r. ⌜ Recovered (deskOf s (now (shifts .entry))) (now (packets .entry)) (r .number) (r .count) (take (sourcesBytes (deskOf s (now (shifts .entry)))) (now (sources .exit)))
-        × (length (now (sources .exit)) ≡ allSources) ⌝ }
+    requires { ⌜ Roomy (now rows) ⌝ }
+    requires { ⌜ ((i p : ℕ) → rowIn (now rows) i p ≡ 0) ⌝ }
+    ensures { λ r. ⌜ Recovered (deskOf s (now (shifts .entry))) (now (packets .entry)) (r .number) (r .count) (sourcesIn (deskOf s (now (shifts .entry))) (now (rows .exit))) ⌝ }
+    ensures { λ r. ⌜ InBytes (deskOf s (now (shifts .entry))) (now (rows .exit)) × (r .number ≡ 0 → NoRest (deskOf s (now (shifts .entry))) (now (rows .exit))) ⌝ }
 {
-    let d = decode::read_back(s, shifts, packets, sources);
+    let d = decode::read_back(s, shifts, reaches, packets, rows);
     if !d.whole {
         return RebuildAnswer {
             number: Number::STALL,
             count: d.count,
         };
     }
-    if survivors::stray(s, shifts, packets) {
+    if survivors::stray(s, shifts, reaches, packets) {
         return refused(Number::STRAY);
     }
     if !d.consistent {
@@ -57,33 +62,43 @@ fn refused(number: u64) -> RebuildAnswer
     RebuildAnswer { number, count: 0 }
 }
 
-// The first bytes of src, as many as dst has.
-fn copy_first(dst: &mut [u8], src: &[u8])
-    requires { ⌜ length (now dst) ≤ length (now src) ⌝ }
-    ensures { λ _. ⌜ now (dst .exit) ≡ take (length (now (dst .entry))) (now (src .entry)) ⌝ }
+// The sources in the rows into out, which has their length.
+fn store_sources(s: Shape, rows: &[u64], out: &mut [u8])
+    requires { ⌜ s .k ≤ maxK ⌝ }
+    requires { ⌜ s .length ≤ maxLength ⌝ }
+    requires { ⌜ Roomy (now rows) ⌝ }
+    requires { ⌜ length (now out) ≡ sourcesBytes (deskOf s []) ⌝ }
+    ensures { λ _. ⌜ now (out .exit) ≡ sourcesIn (deskOf s []) (now (rows .entry)) ⌝ }
 {
-    let n = dst.len();
-    bits::copy_front(dst, &src[..n]);
+    let bytes = table::source_bytes(s);
+    let mut c = 0;
+    while c < s.k {
+        rows::bytes::store(rows, c, out, c * bytes, bytes);
+        c += 1;
+    }
+    bits::known(out);
 }
 
 // 8, 9 and 10, and the sources into out, which has their length; refused, out as it was.
 fn rebuild_into(
     s: Shape,
     shifts: &[u8; Table::CELLS],
+    reaches: &[u8; Table::PARITIES],
     packets: &[u8],
     out: &mut [u8],
 ) -> RebuildAnswer
     requires { ⌜ Ready s (now shifts) ⌝ }
+    requires { ⌜ Reaches s (now shifts) (now reaches) ⌝ }
     requires { ⌜ Survivors s (now shifts) (now packets) ⌝ }
     requires { ⌜ length (now out) ≡ sourcesBytes (deskOf s (now shifts)) ⌝ }
     ensures { λ r. ⌜ RebuildMade (deskOf s (now (shifts .entry))) (now (packets .entry)) (now (out .entry)) (r .number) (r .count) (now (out .exit)) ⌝ }
 {
-    let mut sources = [0u8; Table::ALL_SOURCES];
-    let r = recover(s, shifts, packets, &mut sources);
+    let mut rows = [0u64; survivors::WORDS];
+    let r = recover(s, shifts, reaches, packets, &mut rows);
     if r.number != 0 {
         return r;
     }
-    copy_first(out, &sources);
+    store_sources(s, &rows, out);
     r
 }
 
@@ -97,12 +112,13 @@ fn rebuild_lent(
     requires { ⌜ Ready s (now shifts) ⌝ }
     ensures { λ r. ⌜ RebuildGiven (deskOf s (now (shifts .entry))) (now (packets .entry)) (now (out .entry)) (r .number) (r .count) (now (out .exit)) ⌝ }
 {
-    let needed = table::packets::survivors_bytes(s, shifts);
+    let reaches = table::packets::reaches(s, shifts);
+    let needed = table::packets::bytes_of_survivors(s, shifts, &reaches);
     let number = checks::lengths_number(packets, needed, out, table::packets::sources_bytes(s));
     if number != 0 {
         return refused(number);
     }
-    rebuild_into(s, shifts, packets, out)
+    rebuild_into(s, shifts, &reaches, packets, out)
 }
 
 // All sources from the packets at hand, in order, and the count of steps.
@@ -121,7 +137,5 @@ pub fn rebuild(
     if o.number != 0 {
         return refused(o.number);
     }
-    let t = o.table;
-    let shifts = t.shifts;
-    rebuild_lent(o.shape, &shifts, packets, out)
+    rebuild_lent(o.shape, &o.table.shifts, packets, out)
 }

@@ -1,7 +1,7 @@
-pub mod CellLaws
-pub mod SourceLaws
 pub mod AtHand
-pub mod RemainderLaws
 pub mod PlaceLaws
+pub mod RestLaws
+pub mod SourceLaws
+pub mod SourcesIn
 pub mod CameLaws
 pub mod StrayLaws

@@ -1,40 +1,49 @@
--- The remainders: a row for each parity, which takes what is left of it; and the packets put at their places.
+-- A row for each packet: the sources stand in the first k rows, what is left of parity a in row k + a.
 use mathlib.Core.Path.{_≡_}
-use mathlib.Core.Bool.{cond}
+use mathlib.Core.Bool.{Bool, true, cond}
 use mathlib.Core.List.{List}
-use Prim.Native.Nat.{ℕ, _+_, _*_, _%_, _<_}
+use Prim.Native.Nat.{ℕ, _+_, _*_, _%_, _≤_, _<_}
 use lib.Dec.{ltb}
-use Rattle.bits.specs.Sums.{oneAt}
-use Rattle.bits.specs.Bits.{bitAt}
-use Rattle.table.specs.Limits.{maxM, longest}
-use Rattle.table.specs.Desk.{Desk}
-use Rattle.code.specs.Code.{Bits, sourcesOf}
-use Rattle.survivors.specs.Packets.{cameSource, cameParity}
+use lib.ListN.{length}
+use Rattle.bits.specs.Bits.{bitAt, bytesOf, joined}
+use Rattle.table.specs.Limits.{maxPackets}
+use Rattle.table.specs.Desk.{Desk, mark}
+use Rattle.rows.specs.Rows.{rowBits, rowWords, rowIn}
+use Rattle.code.specs.Code.{Bits}
+use Rattle.survivors.specs.Packets.{came}
 
--- the bits that a row has room for: as many as the longest parity; and the bytes of all rows
-abbrev pub rowBits : ℕ
-rowBits = 8 * longest
+-- room for a row for each packet that there can be
+abbrev pub Roomy : List ℕ → Type 0
+Roomy rows = length rows ≡ maxPackets * rowWords
 
-abbrev pub rowsBytes : ℕ
-rowsBytes = maxM * longest
-
--- bit q of row a
-unfoldable pub rowOf : List ℕ → Bits
-rowOf rests a q = bitAt rests (a * rowBits + q)
+-- of the sources s those that are marked, noughts for the others
+unfoldable pub markedOf : ℕ → Bits → Bits
+markedOf marks s c p = cond (mark marks c) (s c p) 0
 
 module _ (D : Desk) where
   open Desk D using (k, bytes, present)
 
-  -- the bits x, a packet's, were added at packet i's place: among the sources, or in its row
-  pub record PacketAdded (i : ℕ) (x : ℕ → ℕ) (sources rests sources′ rests′ : List ℕ) : Type 0 where
-    pub source : (c p : ℕ) → p < 8 * bytes → sourcesOf D sources′ c p ≡ (sourcesOf D sources c p + oneAt i c * cond (ltb c k) (x p) 0) % 2
-    pub row : (a q : ℕ) → q < rowBits → rowOf rests′ a q ≡ (rowOf rests a q + oneAt i (k + a) * x q) % 2
+  -- bit p of source c as it stands in the rows, 0 past the sources
+  unfoldable pub sourceIn : List ℕ → Bits
+  sourceIn rows c p = cond (ltb c k) (rowIn rows c p) 0
 
-  -- each packet at hand stands in its place, and nothing else
-  pub record Placed (packets sources rests : List ℕ) : Type 0 where
-    pub source : (c p : ℕ) → p < 8 * bytes → sourcesOf D sources c p ≡ cond (present c) (cameSource D packets c p) 0
-    pub row : (a q : ℕ) → q < rowBits → rowOf rests a q ≡ cond (present (k + a)) (cameParity D packets a q) 0
+  -- the sources in the rows as bytes, one after another
+  unfoldable pub sourcesIn : List ℕ → List ℕ
+  sourcesIn rows = joined (λ c. true) (λ c. bytesOf bytes (rowIn rows c)) k
 
-  -- the bits h were added to the row of each parity at hand
-  abbrev pub AddedToRows : Bits → List ℕ → List ℕ → Type 0
-  AddedToRows h rests rests′ = (a q : ℕ) → q < rowBits → rowOf rests′ a q ≡ (rowOf rests a q + cond (present (k + a)) (h a q) 0) % 2
+  -- no source in the rows goes past its bytes
+  abbrev pub InBytes : List ℕ → Type 0
+  InBytes rows = (c p : ℕ) → c < k → 8 * bytes ≤ p → rowIn rows c p ≡ 0
+
+  -- each packet at hand stands in its row, and nothing else
+  abbrev pub Placed : List ℕ → List ℕ → Type 0
+  Placed packets rows = (i p : ℕ) → p < rowBits → rowIn rows i p ≡ cond (present i) (bitAt (came D packets i) p) 0
+
+  -- the bits h were added to the row of each parity that is on, and the sources are as they were
+  pub record AddedToRests (on : ℕ → Bool) (h : Bits) (rows rows′ : List ℕ) : Type 0 where
+    pub rest : (a q : ℕ) → q < rowBits → rowIn rows′ (k + a) q ≡ (rowIn rows (k + a) q + cond (on (k + a)) (h a q) 0) % 2
+    pub source : (c p : ℕ) → c < k → rowIn rows′ c p ≡ rowIn rows c p
+
+  -- nothing is left of any parity
+  abbrev pub NoRest : List ℕ → Type 0
+  NoRest rows = (a q : ℕ) → rowIn rows (k + a) q ≡ 0

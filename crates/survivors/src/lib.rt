@@ -1,98 +1,96 @@
-// The packets that came: put at their places, what is left of each parity at hand in a row of its own, and a stray packet found.
+// The packets that came: each in a row of its own, the sources taken out of the rows of the parities at hand, and a stray packet found.
 use table::Shape;
 use table::Table;
 ghost use mathlib.Core.Path.{_≡_};
 ghost use lib.ListN.{length};
-ghost use Prim.Native.Nat.{_+_, _≤_, _<_};
-ghost use Rattle.bits.specs.Bits.{bitAt, Noughts, Tells, slice};
-ghost use Rattle.table.specs.Desk.{sourcesBytes, packetBytes};
-ghost use Rattle.table.specs.Table.{Within, Ready, Survivors, deskOf};
-ghost use Rattle.code.specs.Code.{sumOf, sourcesOf};
+ghost use Prim.Native.Nat.{ℕ, _+_, _/_, _^_, _<_};
+ghost use Rattle.bits.specs.Bits.{Tells};
+ghost use Rattle.rows.specs.Rows.{rowBits, rowWords, rowIn, AddedTo};
+ghost use Rattle.table.specs.Desk.{mark};
+ghost use Rattle.table.specs.Table.{Within, Ready, Reaches, Survivors, deskOf};
+ghost use Rattle.code.specs.Code.{sumOf};
 ghost use Rattle.survivors.specs.Packets.{Stray};
-ghost use Rattle.survivors.specs.Remainders.{PacketAdded, Placed, AddedToRows};
+ghost use Rattle.survivors.specs.Remainders.{Roomy, markedOf, sourceIn, Placed, AddedToRests};
 
-// The bits of a row, and room for a row for each parity.
-pub const ROW_BITS: usize = 8 * Table::LONGEST;
+// Room for a row for each packet that there can be.
+pub const WORDS: usize = (Table::MAX_K + Table::MAX_M) as usize * rows::ROW_WORDS;
 
-pub const ROWS: usize = Table::MAX_M as usize * Table::LONGEST;
-
-// Adds packet i, from 0, which starts at byte `from` of the packets, at its place; gives where it ends.
-fn place(
-    s: Shape,
-    shifts: &[u8; Table::CELLS],
-    packets: &[u8],
-    from: usize,
-    i: usize,
-    sources: &mut [u8; Table::ALL_SOURCES],
-    rests: &mut [u8; ROWS],
-) -> usize
-    requires { ⌜ Within s (now shifts) ⌝ }
-    requires { ⌜ i < s .k + s .m ⌝ }
-    requires { ⌜ from + packetBytes (deskOf s (now shifts)) i ≤ length (now packets) ⌝ }
-    ensures { λ r. ⌜ r ≡ from + packetBytes (deskOf s (now (shifts .entry))) i ⌝ }
-    ensures { λ r. ⌜ PacketAdded (deskOf s (now (shifts .entry))) i (bitAt (slice (now (packets .entry)) from (packetBytes (deskOf s (now (shifts .entry))) i)))
-        (now (sources .entry)) (now (rests .entry)) (now (sources .exit)) (now (rests .exit)) ⌝ }
-{
-    let end = from + table::packets::packet_bytes(s, shifts, i);
-    let k = s.k;
-    if i < k {
-        shift::shift_add(sources, i * table::source_bytes(s), &packets[from..end], 0);
-        return end;
-    }
-    shift::shift_add(rests, (i - k) * Table::LONGEST, &packets[from..end], 0);
-    end
-}
-
-// Puts each packet at hand at its place.
+// Puts each packet at hand into its row, of rows that are noughts.
 pub fn place_packets(
     s: Shape,
     shifts: &[u8; Table::CELLS],
+    reaches: &[u8; Table::PARITIES],
     packets: &[u8],
-    sources: &mut [u8; Table::ALL_SOURCES],
-    rests: &mut [u8; ROWS],
+    rows: &mut [u64],
 )
     requires { ⌜ Ready s (now shifts) ⌝ }
+    requires { ⌜ Reaches s (now shifts) (now reaches) ⌝ }
     requires { ⌜ Survivors s (now shifts) (now packets) ⌝ }
-    requires { ⌜ Noughts (now sources) ⌝ }
-    requires { ⌜ Noughts (now rests) ⌝ }
-    ensures { λ _. ⌜ Placed (deskOf s (now (shifts .entry))) (now (packets .entry)) (now (sources .exit)) (now (rests .exit)) ⌝ }
+    requires { ⌜ Roomy (now rows) ⌝ }
+    requires { ⌜ ((i p : ℕ) → rowIn (now rows) i p ≡ 0) ⌝ }
+    ensures { λ _. ⌜ Placed (deskOf s (now (shifts .entry))) (now (packets .entry)) (now (rows .exit)) ⌝ }
 {
     let n = s.k + s.m;
     let mut from = 0;
     let mut i = table::packets::next_present(s.marks, 0, n);
     while i < n {
-        from = place(s, shifts, packets, from, i, sources, rests);
+        let end = from + table::packets::bytes_of(s, shifts, reaches, i);
+        rows::bytes::load(rows, i, &packets[from..end]);
+        from = end;
         i = table::packets::next_present(s.marks, i + 1, n);
     }
 }
 
-// Adds the sources into the row of each parity at hand.
-pub fn add_to_rows(s: Shape, shifts: &[u8; Table::CELLS], sources: &[u8], rests: &mut [u8; ROWS])
-    requires { ⌜ Ready s (now shifts) ⌝ }
-    requires { ⌜ sourcesBytes (deskOf s (now shifts)) ≤ length (now sources) ⌝ }
-    ensures { λ _. ⌜ AddedToRows (deskOf s (now (shifts .entry))) (sumOf (deskOf s (now (shifts .entry))) (sourcesOf (deskOf s (now (shifts .entry))) (now (sources .entry))))
-        (now (rests .entry)) (now (rests .exit)) ⌝ }
+// Adds the sources that `marks` name, each shifted up by its entry of row a, into the row of parity a.
+fn add_sources(s: Shape, shifts: &[u8; Table::CELLS], a: usize, marks: u64, rows: &mut [u64])
+    requires { ⌜ Within s (now shifts) ⌝ }
+    requires { ⌜ a < s .m ⌝ }
+    requires { ⌜ Roomy (now rows) ⌝ }
+    ensures { λ _. ⌜ AddedTo (s .k + a) (sumOf (deskOf s (now (shifts .entry))) (markedOf marks (sourceIn (deskOf s (now (shifts .entry))) (now (rows .entry)))) a)
+        (now (rows .entry)) (now (rows .exit)) ⌝ }
+{
+    let k = s.k;
+    let mut b = table::packets::next_present(marks, 0, k);
+    while b < k {
+        let e = table::shift_of(s, shifts, a, b);
+        rows::add_up(rows, k + a, b, e);
+        b = table::packets::next_present(marks, b + 1, k);
+    }
+}
+
+// So, into the row of each parity that `targets` name.
+pub fn add_to_rests(
+    s: Shape,
+    shifts: &[u8; Table::CELLS],
+    targets: u64,
+    marks: u64,
+    rows: &mut [u64],
+)
+    requires { ⌜ Within s (now shifts) ⌝ }
+    requires { ⌜ targets / 2 ^ (s .k + s .m) ≡ 0 ⌝ }
+    requires { ⌜ Roomy (now rows) ⌝ }
+    ensures { λ _. ⌜ AddedToRests (deskOf s (now (shifts .entry))) (mark targets)
+        (sumOf (deskOf s (now (shifts .entry))) (markedOf marks (sourceIn (deskOf s (now (shifts .entry))) (now (rows .entry)))))
+        (now (rows .entry)) (now (rows .exit)) ⌝ }
 {
     let k = s.k;
     let n = k + s.m;
-    let mut i = table::packets::next_present(s.marks, k, n);
+    let mut i = table::packets::next_present(targets, k, n);
     while i < n {
-        let a = i - k;
-        code::add_row(s, shifts, a, sources, rests, a * Table::LONGEST);
-        i = table::packets::next_present(s.marks, i + 1, n);
+        add_sources(s, shifts, i - k, marks, rows);
+        i = table::packets::next_present(targets, i + 1, n);
     }
 }
 
-// Whether nothing is left in any row.
-pub fn all_clear(rests: &[u8; ROWS]) -> bool
-    ensures { λ r. ⌜ Tells r (Noughts (now (rests .entry))) ⌝ }
-{
-    bits::clear_above(rests, 0)
-}
-
 // Whether a packet at hand has a one above its last bit.
-pub fn stray(s: Shape, shifts: &[u8; Table::CELLS], packets: &[u8]) -> bool
+pub fn stray(
+    s: Shape,
+    shifts: &[u8; Table::CELLS],
+    reaches: &[u8; Table::PARITIES],
+    packets: &[u8],
+) -> bool
     requires { ⌜ Within s (now shifts) ⌝ }
+    requires { ⌜ Reaches s (now shifts) (now reaches) ⌝ }
     requires { ⌜ Survivors s (now shifts) (now packets) ⌝ }
     ensures { λ r. ⌜ Tells r (Stray (deskOf s (now (shifts .entry))) (now (packets .entry))) ⌝ }
 {
@@ -100,8 +98,8 @@ pub fn stray(s: Shape, shifts: &[u8; Table::CELLS], packets: &[u8]) -> bool
     let mut from = 0;
     let mut i = table::packets::next_present(s.marks, 0, n);
     while i < n {
-        let end = from + table::packets::packet_bytes(s, shifts, i);
-        let last = table::packets::packet_bits(s, shifts, i);
+        let end = from + table::packets::bytes_of(s, shifts, reaches, i);
+        let last = table::packets::bits_of(s, shifts, reaches, i);
         if !bits::clear_above(&packets[from..end], last) {
             return true;
         }

@@ -4,7 +4,7 @@ use Prim.Native.Nat.{ℕ, _+_, _*_, _≤_, _<_}
 use native.Mathlib.Omega.{arith}
 use native.Mathlib.Nat.{mul-le-mul}
 use Rattle.table.specs.Limits.{maxK, maxM, maxBits, maxBytes, maxShift, allSources, longest}
-use Rattle.table.specs.Desk.{Desk, desk, sourcesBytes, packetBits, packetBytes}
+use Rattle.table.specs.Desk.{Desk, desk, sourcesBytes, reach, packetBits, packetBytes}
 use Rattle.table.specs.Table.{Within, deskOf}
 use Rattle.table.specs.declared.Shape.{Shape}
 use Rattle.table.proofs.ShapeLaws.{Shaped}
@@ -49,9 +49,13 @@ module _ (D : Desk) (B : Bounded D) where
   pub sources-fit : sourcesBytes D ≤ allSources
   sources-fit = mul-le-mul (B .k-high) (B .bytes-high)
 
+  -- no parity reaches further than the largest shift
+  pub reach-low : (a : ℕ) → reach D a ≤ maxShift
+  reach-low a = reach-below D a maxShift (B .low a)
+
   -- every parity fits in a row
   pub parity-bits-fit : (a : ℕ) → packetBits D (k + a) ≤ 8 * longest
-  parity-bits-fit a = omega (arith, parity-packet-bits D a, reach-below D a maxShift (B .low a), B .bits-high)
+  parity-bits-fit a = omega (arith, parity-packet-bits D a, reach-low a, B .bits-high)
 
   pub parity-fits : (a : ℕ) → packetBytes D (k + a) ≤ longest
   parity-fits a = omega (arith, parity-packet-bytes D (k + a) (omega arith), parity-bits-fit a)

@@ -133,6 +133,19 @@ unfolding trailingZeros
 ends-at-zero zero n y e l = absurd (omega arith)
 ends-at-zero (suc w) n y e l = digit-ends w n y e (n % 2) refl (trailingZeros w (n / 2)) (ends-at-zero w (n / 2) (y / 2) (omega (arith, pow-succ' 2 w))) l
 
+-- so a mark is set in one of them only
+pub shared-mark : (w n y : ℕ) → n + y + 1 ≡ 2 ^ w → (i : ℕ) → i < w → mark n i ≡ not (mark y i)
+shared-mark zero n y e i l = absurd (omega arith)
+shared-mark (suc w) n y e zero l = rw (div-one, div-one) (other (y % 2) (n % 2) (omega (arith, pow-succ' 2 w)) (omega arith))
+  where
+    other : (a b : ℕ) → a + b ≡ 1 → a < 2 → eqb b 1 ≡ not (eqb a 1)
+    other a b s l = elim (ℕ-discrete a 1) [
+      | yes e ↦ rw (eq-eqb a 1 e, ne-eqb b 1 (λ f. omega arith))
+      | no ne ↦ rw (ne-eqb a 1 ne, eq-eqb b 1 (omega arith))
+    ]
+shared-mark (suc w) n y e (suc i) l =
+    half-mark n i ∙ shared-mark w (n / 2) (y / 2) (omega (arith, pow-succ' 2 w)) i (omega arith) ∙ sym (ap not (half-mark y i))
+
 -- the next mark, from packet i on: t marks are passed, and the one after them is found
 module _ (v : Bool) (marks i t : ℕ) (passed : (j : ℕ) → j < t → mark (marks / 2 ^ i) j ≡ not v) where
   passes : (c : ℕ) → i ≤ c → c < i + t → mark marks c ≡ not v

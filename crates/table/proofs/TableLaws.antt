@@ -1,12 +1,12 @@
 -- Laws of tables: their entries, laid out eight to a row, and their limits. Assumes nothing.
-use mathlib.Core.Path.{_≡_, refl, sym, _∙_, fun-ext}
+use mathlib.Core.Path.{_≡_, refl, sym, ap, _∙_, subst, fun-ext}
 use mathlib.Core.List.{List, [], _∷_}
 use mathlib.Core.Logic.{_⊎_, inl, inr, ⊎-elim}
 use mathlib.Core.Bool.{Bool, true, false, and-false}
 use Prim.Native.Nat.{ℕ, zero, suc, _+_, _*_, _/_, _%_, _≤_, _<_}
 use native.Mathlib.Omega.{arith}
 use native.Mathlib.Nat.{mul-le-mul, mul-le-mul-right, div-lt-iff-lt-mul, mod-lt}
-use native.Mathlib.Decide.{decLt, decLe}
+use native.Mathlib.Decide.{ℕ-discrete, decLt, decLe}
 use lib.Dec.{ltb}
 use borrow.Author.Tests.{lt-ltb, le-ltb, ltb-true, ltb-false}
 use Rattle.bits.specs.Bits.{Tells}
@@ -16,7 +16,7 @@ use borrow.Author.Count.{below-more}
 use Rattle.bits.specs.Sums.{at}
 use Rattle.table.specs.Limits.{maxK, maxM, maxShift, cells}
 use Rattle.table.specs.Desk.{entry, mark, sourceBits}
-use Rattle.table.specs.Table.{laidOut, roomOf}
+use Rattle.table.specs.Table.{RowLaid, laidOut, roomOf}
 use Rattle.table.specs.Checks.{Astray}
 
 -- past its end a list has noughts
@@ -73,6 +73,41 @@ entry-below k m table a b e h = elim (decLt b k) [
 -- the shifts are the table's entries, cell by cell
 abbrev pub CellsAre : ℕ → List ℕ → List ℕ → Type 0
 CellsAre k table shifts = (i : ℕ) → i < cells → at shifts i ≡ entry k table (i / maxK) (i % maxK)
+
+-- entry after entry of a row, and row after row: the rows above are the table's, and those below hold noughts
+module _ (k : ℕ) (table : List ℕ) (a : ℕ) where
+  pub row-laid-none : (shifts : List ℕ) → RowLaid k table a 0 shifts shifts
+  row-laid-none shifts = record { laid = λ b l. absurd (omega arith); before = λ i _. refl; after = λ i _. refl }
+
+  pub row-laid-more : (n : ℕ) (shifts shifts′ : List ℕ) → a * maxK + n < length shifts′ → RowLaid k table a n shifts shifts′
+      → RowLaid k table a (n + 1) shifts (set shifts′ (a * maxK + n) (at table (a * k + n)))
+  row-laid-more n shifts shifts′ room R =
+      let v = at table (a * k + n) in
+      record {
+        laid = λ b l. elim (ℕ-discrete n b) [
+          | yes e ↦ subst (λ c. at (set shifts′ (a * maxK + n) v) (a * maxK + c) ≡ at table (a * k + c)) e (getD-set-same shifts′ (a * maxK + n) v 0 room)
+          | no ne ↦ getD-set-other shifts′ (a * maxK + n) (a * maxK + b) v 0 (omega arith) ∙ R .laid b (omega arith)
+        ];
+        before = λ i l. getD-set-other shifts′ (a * maxK + n) i v 0 (omega arith) ∙ R .before i l;
+        after = λ i l. getD-set-other shifts′ (a * maxK + n) i v 0 (omega arith) ∙ R .after i (omega arith);
+      }
+
+  module _ (shifts shifts′ : List ℕ) (low : k ≤ maxK) (R : RowLaid k table a k shifts shifts′) (below : (i : ℕ) → a * maxK ≤ i → at shifts i ≡ 0) where
+    pub rows-laid-more : ((i : ℕ) → i < a * maxK → at shifts i ≡ entry k table (i / maxK) (i % maxK))
+        → (i : ℕ) → i < (a + 1) * maxK → at shifts′ i ≡ entry k table (i / maxK) (i % maxK)
+    rows-laid-more above i l = elim (decLt i (a * maxK)) [
+      | yes q ↦ R .before i q ∙ above i q
+      | no q ↦
+          let ea : a ≡ i / maxK = omega arith in
+          let ei : a * maxK + i % maxK ≡ i = omega arith in
+          elim (decLt (i % maxK) k) [
+            | yes inside ↦ ap (at shifts′) (sym ei) ∙ R .laid (i % maxK) inside ∙ entry-in k table a (i % maxK) inside ∙ ap (λ c. entry k table c (i % maxK)) ea
+            | no past ↦ R .after i (omega arith) ∙ below i (omega arith) ∙ entry-out k table (i / maxK) (i % maxK) (omega arith)
+          ]
+    ]
+
+    pub rows-laid-below : (i : ℕ) → (a + 1) * maxK ≤ i → at shifts′ i ≡ 0
+    rows-laid-below i l = R .after i (omega arith) ∙ below i (omega arith)
 
 -- and so they are laid out
 pub laid-entries : (k m : ℕ) (table shifts : List ℕ) → k ≤ maxK → m ≤ maxM → length table ≡ m * k → length shifts ≡ cells → CellsAre k table shifts → laidOut k shifts ≡ entry k table

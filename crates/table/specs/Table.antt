@@ -7,7 +7,7 @@ use lib.Dec.{ltb}
 use lib.ListN.{length}
 use Rattle.bits.specs.Sums.{at}
 use Rattle.table.specs.Limits.{maxK, maxM, maxLength, maxShift, cells}
-use Rattle.table.specs.Desk.{Desk, entry, mark, sourceBits, sourceBytes, survivorsBytes}
+use Rattle.table.specs.Desk.{Desk, entry, mark, sourceBits, sourceBytes, reach, survivorsBytes}
 use Rattle.table.specs.Family.{houseShift, familyShift}
 use Rattle.table.specs.declared.Shape.{Shape}
 use Rattle.table.specs.declared.Table.{Table}
@@ -59,12 +59,22 @@ pub record Ready (s : Shape) (shifts : List ℕ) : Type 0 where
 abbrev pub Survivors : Shape → List ℕ → List ℕ → Type 0
 Survivors s shifts packets = length packets ≡ survivorsBytes (deskOf s shifts)
 
+-- the reach of each parity, in its place
+abbrev pub Reaches : Shape → List ℕ → List ℕ → Type 0
+Reaches s shifts reaches = (a : ℕ) → a < s .m → at reaches a ≡ reach (deskOf s shifts) a
+
 -- t holds the table: k columns, m rows, its shifts laid out eight to a row, none above the limit
 pub record Holds (k m : ℕ) (table : List ℕ) (t : Table) : Type 0 where
   pub k-is : t .k ≡ k
   pub m-is : t .m ≡ m
   pub laid : laidOut k (t .shifts) ≡ entry k table
   pub low : (i : ℕ) → at (t .shifts) i ≤ maxShift
+
+-- of row a of a table of k columns n entries were laid out, and the other cells are as they were
+pub record RowLaid (k : ℕ) (table : List ℕ) (a n : ℕ) (shifts shifts′ : List ℕ) : Type 0 where
+  pub laid : (b : ℕ) → b < n → at shifts′ (a * maxK + b) ≡ at table (a * k + b)
+  pub before : (i : ℕ) → i < a * maxK → at shifts′ i ≡ at shifts i
+  pub after : (i : ℕ) → a * maxK + n ≤ i → at shifts′ i ≡ at shifts i
 
 -- t is a family's table: k columns, m rows, its shifts laid out eight to a row
 pub record OfFamily (family k m : ℕ) (t : Table) : Type 0 where

@@ -5,11 +5,11 @@ pub mod packets;
 ghost use mathlib.Core.Path.{_≡_};
 ghost use mathlib.Core.List.{_++_};
 ghost use lib.ListN.{length};
-ghost use Prim.Native.Nat.{ℕ, _*_, _/_, _%_, _≤_, _<_};
+ghost use Prim.Native.Nat.{ℕ, _+_, _*_, _/_, _%_, _≤_, _<_};
 ghost use Rattle.bits.specs.Sums.{at};
 ghost use Rattle.table.specs.Limits.{Limited, maxK, maxM, maxLength, maxShift, maxFamily, cells};
 ghost use Rattle.table.specs.Desk.{entry, mark, sourceBits, sourceBytes};
-ghost use Rattle.table.specs.Table.{Within, Holds, OfFamily, houseCell, laidOut};
+ghost use Rattle.table.specs.Table.{Within, Holds, RowLaid, OfFamily, houseCell, laidOut};
 ghost use Rattle.table.specs.Checks.{Checked, sizeChecks, tableChecks};
 
 // A shift table: k columns and m rows, its shifts laid out eight to a row as in the full sheet.
@@ -148,10 +148,11 @@ impl Table {
     // The sources, as the length of an array of progress numbers.
     pub const SOURCES: usize = Table::MAX_K as usize;
 
-    // The bytes of the longest source, and of as many as there can be.
-    pub const MAX_BYTES: usize = Table::MAX_LENGTH as usize;
+    // The parities, as the length of an array of their reaches.
+    pub const PARITIES: usize = Table::MAX_M as usize;
 
-    pub const ALL_SOURCES: usize = Table::SOURCES * Table::MAX_BYTES;
+    // The bytes of the longest source.
+    pub const MAX_BYTES: usize = Table::MAX_LENGTH as usize;
 
     // The cells of the full sheet.
     pub const CELLS: usize = (Table::MAX_K * Table::MAX_M) as usize;
@@ -308,20 +309,32 @@ impl Table {
     }
 }
 
-// The shift at cell i of the sheet, of a table of k columns and m rows; 0 outside it.
-fn cell(k: usize, m: usize, table: &[u8], i: usize) -> u8
-    requires { ⌜ (k ≤ maxK) × (m ≤ maxM) × (length (now table) ≡ m * k) ⌝ }
-    ensures { λ r. ⌜ r ≡ entry k (now (table .entry)) (i / maxK) (i % maxK) ⌝ }
+// Lays row a of a table of k columns out on the sheet.
+fn lay_row(k: usize, table: &[u8], a: usize, shifts: &mut [u8])
+    requires { ⌜ (k ≤ maxK) × (a < maxM) ⌝ }
+    requires { ⌜ a * k + k ≤ length (now table) ⌝ }
+    requires { ⌜ length (now shifts) ≡ cells ⌝ }
+    ensures { λ _. ⌜ RowLaid k (now (table .entry)) a k (now (shifts .entry)) (now (shifts .exit)) ⌝ }
 {
-    let a = i / Table::SOURCES;
-    let b = i % Table::SOURCES;
-    if k <= b {
-        return 0;
+    let mut b = 0;
+    while b < k {
+        shifts[a * Table::SOURCES + b] = table[a * k + b];
+        b += 1;
     }
-    if m <= a {
-        return 0;
+}
+
+// Lays the bytes of a table, row by row, out on a sheet of noughts, eight to a row.
+pub fn lay_out(k: usize, m: usize, table: &[u8], shifts: &mut [u8])
+    requires { ⌜ (k ≤ maxK) × (m ≤ maxM) × (length (now table) ≡ m * k) ⌝ }
+    requires { ⌜ length (now shifts) ≡ cells ⌝ }
+    requires { ⌜ ((i : ℕ) → at (now shifts) i ≡ 0) ⌝ }
+    ensures { λ _. ⌜ ((i : ℕ) → i < cells → at (now (shifts .exit)) i ≡ entry k (now (table .entry)) (i / maxK) (i % maxK)) ⌝ }
+{
+    let mut a = 0;
+    while a < m {
+        lay_row(k, table, a, shifts);
+        a += 1;
     }
-    table[a * k + b]
 }
 
 // The bytes of a table, row by row, laid out eight to a row, and 0 elsewhere.
@@ -330,11 +343,7 @@ fn laid_out(k: usize, m: usize, table: &[u8]) -> [u8; Table::CELLS]
     ensures { λ r. ⌜ ((i : ℕ) → i < cells → at r i ≡ entry k (now (table .entry)) (i / maxK) (i % maxK)) ⌝ }
 {
     let mut shifts = [0u8; Table::CELLS];
-    let mut i = 0;
-    while i < m * Table::SOURCES {
-        shifts[i] = cell(k, m, table, i);
-        i += 1;
-    }
+    lay_out(k, m, table, &mut shifts);
     shifts
 }
 

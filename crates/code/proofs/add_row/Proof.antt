@@ -1,11 +1,10 @@
--- Source after source is added, each at its own shift, and all of them fit the parity. Assumes nothing.
+-- Source after source is added, each at its own shift, and all of them fit the row. Assumes nothing.
 use Prim.Native.Nat.{_≤_, _-_}
 use mathlib.Core.Path.{_≡_, refl, _∙_}
 use lib.ListN.{length}
 use Rattle.table.specs.Desk.{sourceBytes}
 use Rattle.table.specs.Table.{deskOf}
-use Rattle.table.proofs.Bounds.{within-bounds}
-use Rattle.table.proofs.PacketLaws.{within-reach, parity-packet-bits}
+use Rattle.table.proofs.Bounds.{within-bounds, shifted-fits}
 use Rattle.code.proofs.CodeLaws.{SourceTaken, source-taken}
 use Rattle.code.proofs.RowLaws.{Sums, sums-none, sums-more, sums-all}
 use native.Mathlib.Omega.{arith}
@@ -14,16 +13,16 @@ use Rattle.code.proofs.add_row.Statement.{statement}
 use Rattle.code.proofs.add_row.Tie as tie
 
 abbrev Inv-loop : tie.InvT-loop
-Inv-loop s shifts a sources dst₀ start bytes b₀ dst b = (b ≤ s .k) × (bytes ≡ sourceBytes (s .length)) × (length dst ≡ length dst₀) × Sums (deskOf s shifts) sources a start dst₀ b dst
+Inv-loop s shifts a sources rows₀ at bytes b₀ rows b = (b ≤ s .k) × (bytes ≡ sourceBytes (s .length)) × (length rows ≡ length rows₀) × Sums (deskOf s shifts) sources a at rows₀ b rows
 
 abbrev μ-loop : tie.MeasureT-loop
-μ-loop s shifts a sources dst₀ start bytes b₀ dst b = s .k - b
+μ-loop s shifts a sources rows₀ at bytes b₀ rows b = s .k - b
 
 source-bytes-requires : tie.Need-source-bytes-requires Inv-loop μ-loop
 source-bytes-requires c κs = search needs
 
 loop-holds : tie.Need-loop-holds Inv-loop μ-loop
-loop-holds c = let s = c .before .before .before .args in (omega arith, c .source-bytes .ensures, refl, sums-none (deskOf (s .s) (s .shifts .now)) (s .sources .now) (s .a) (s .start) (s .dst .now))
+loop-holds c = let s = c .before .before .before .args in (omega arith, c .source-bytes .ensures, refl, sums-none (deskOf (s .s) (s .shifts .now)) (s .sources .now) (s .a) (s .at) (s .rows .now))
 
 -- source b, as it is taken
 taken : (c : tie.Then1 Inv-loop μ-loop) → let l = c .before .before in let s = l .before .before .before .before .args in
@@ -43,26 +42,24 @@ add-end c = omega (arith, taken c .few)
 shift-of-requires : tie.Need-shift-of-requires Inv-loop μ-loop
 shift-of-requires c κs = search needs
 
-sub-shift-add : tie.Need-sub-shift-add Inv-loop μ-loop
-sub-shift-add c = search needs
+sub-add-bytes : tie.Need-sub-add-bytes Inv-loop μ-loop
+sub-add-bytes c = search needs
 
-part-shift-add-start : tie.Need-part-shift-add-start Inv-loop μ-loop
-part-shift-add-start c = search needs
+part-add-bytes-start : tie.Need-part-add-bytes-start Inv-loop μ-loop
+part-add-bytes-start c = search needs
 
-part-shift-add-end : tie.Need-part-shift-add-end Inv-loop μ-loop
-part-shift-add-end c = omega (arith, taken (c .before .before) .within)
+part-add-bytes-end : tie.Need-part-add-bytes-end Inv-loop μ-loop
+part-add-bytes-end c = omega (arith, taken (c .before .before) .within)
 
-shift-add-requires : tie.Need-shift-add-requires Inv-loop μ-loop
-shift-add-requires c κs =
+add-bytes-requires : tie.Need-add-bytes-requires Inv-loop μ-loop
+add-bytes-requires c κs =
     let t = c .before .before .before in
     let l = t .before .before in
     let s = l .before .before .before .before in
     let D = deskOf (s .args .s) (s .args .shifts .now) in
     let e = c .before .before .shift-of .ensures in
-    let n = taken t .long in
-    let fits = within-reach D (s .args .a) (l .loop .b) (search needs) in
-    let all = parity-packet-bits D (s .args .a) in
-    (omega (arith, n, e .1, l .loop .inv .1, s .pre .0 .l-high), omega (arith, n, e .0, fits, all, l .loop .inv .1, l .loop .inv .2, s .pre .1 .1 .1))
+    let fits = shifted-fits D (within-bounds (s .args .s) (s .args .shifts .now) (s .pre .0)) (s .args .a) (l .loop .b) (s .pre .1 .0) (search needs) in
+    (omega (arith, l .loop .inv .2, s .pre .1 .1 .1), (omega (arith, e .1), omega (arith, taken t .long, e .0, fits, l .loop .inv .1)))
 
 add-b : tie.Need-add-b Inv-loop μ-loop
 add-b c = search needs
@@ -77,12 +74,12 @@ loop-again c =
     let l = g .before .before .before .before .before in
     let s = l .before .before .before .before .args in
     let D = deskOf (s .s) (s .shifts .now) in
-    let e = g .before .before .shift-of .ensures .0 in (
+    let e : g .before .before .shift-of .result ≡ D .shift (s .a) (l .loop .b) = omega (arith, g .before .before .shift-of .ensures .0) in (
       omega arith,
       l .loop .inv .1,
-      a .shift-add .kept .0 ∙ l .loop .inv .2,
-      sums-more D (s .sources .now) (s .a) (s .start) (s .dst .now) (l .loop .dst) _ (l .loop .b) (g .before .before .shift-of .result) _
-          (taken (g .before .before .before) .same) e (l .loop .inv .3) (a .shift-add .ensures),
+      a .add-bytes .kept .0 ∙ l .loop .inv .2,
+      sums-more D (s .sources .now) (s .a) (s .at) (s .rows .now) (l .loop .rows) _ (l .loop .b) (g .before .before .shift-of .result) _
+          (taken (g .before .before .before) .same) e (l .loop .inv .3) (a .add-bytes .ensures),
     )
 
 same-length : tie.Need-same-length Inv-loop μ-loop
@@ -92,7 +89,7 @@ returns : tie.Need-returns Inv-loop μ-loop
 returns c =
     let l = c .before .before in
     let s = l .before .before .before .before .args in
-    sums-all (deskOf (s .s) (s .shifts .now)) (s .sources .now) (s .a) (s .start) (s .dst .now) (l .loop .dst) (l .loop .b) (omega arith) (l .loop .inv .3)
+    sums-all (deskOf (s .s) (s .shifts .now)) (s .sources .now) (s .a) (s .at) (s .rows .now) (l .loop .rows) (l .loop .b) (omega arith) (l .loop .inv .3)
 
 pub add-row-spec : {M : Type 1} → statement M
 add-row-spec =
@@ -105,10 +102,10 @@ add-row-spec =
     mul-from
     add-end
     shift-of-requires
-    sub-shift-add
-    part-shift-add-start
-    part-shift-add-end
-    shift-add-requires
+    sub-add-bytes
+    part-add-bytes-start
+    part-add-bytes-end
+    add-bytes-requires
     add-b
     loop-less
     loop-again

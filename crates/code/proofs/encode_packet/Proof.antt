@@ -1,17 +1,16 @@
--- A source is copied, a parity is a row added into noughts. Assumes nothing.
+-- A source is copied, a parity is put into all of the output. Assumes nothing.
 use mathlib.Core.Path.{_≡_, sym, ap, ap₂, _∙_}
 use mathlib.Core.List.{_++_, append-nil}
 use Prim.Native.Nat.{ℕ, _+_, _-_, _*_, _≤_, _<_}
 use lib.ListN.{length, take, drop, drop-of-length-le}
-use Rattle.bits.specs.Bits.{bitAt, part}
-use Rattle.bits.proofs.BitLaws.{zero-bits}
+use Rattle.bits.specs.Bits.{part}
 use Rattle.table.specs.Desk.{packetBytes}
 use Rattle.table.specs.Table.{deskOf}
-use Rattle.table.proofs.Bounds.{within-bounds}
+use Rattle.table.proofs.Bounds.{within-bounds, parity-fits}
 use Rattle.table.proofs.PacketLaws.{source-packet-bytes}
-use Rattle.code.specs.Code.{packetOf}
-use Rattle.code.proofs.CodeLaws.{SourceTaken, source-taken, packet-fits, is-source, is-packet}
-use Rattle.code.proofs.RowLaws.{row-in-noughts}
+use Rattle.code.specs.Code.{parity, sourcesOf, packetOf}
+use Rattle.code.proofs.CodeLaws.{SourceTaken, source-taken, is-source, is-packet}
+use Rattle.code.proofs.RowLaws.{stored-front}
 use native.Mathlib.Omega.{arith}
 use borrow.Author.Needs.{needs}
 use Rattle.code.proofs.encode_packet.Statement.{statement}
@@ -71,17 +70,14 @@ returns c =
     ∙ append-nil (part x (D .bytes) i)
     ∙ is-source D x i (search needs)
 
-clear-requires : tie.Need-clear-requires
-clear-requires c κs = search needs
-
-add-row-requires : tie.Need-add-row-requires
-add-row-requires c κs =
-    let w = c .before .before .before in
-    let s = w .before .before .before .before .before .before in
+put-parity-requires : tie.Need-put-parity-requires
+put-parity-requires c κs =
+    let s = c .before .before .before .before .before in
     let D = deskOf (s .args .s) (s .args .shifts .now) in
     let a = s .args .i - s .args .s .k in
     let e : s .args .s .k + a ≡ s .args .i = omega arith in
-    (s .pre .0, (omega arith, (omega (arith, s .pre .1 .1 .0), omega (arith, packet-fits D a, ap (packetBytes D) e, w .clear .kept .0, s .pre .1 .1 .1))))
+    let fits = parity-fits D (within-bounds (s .args .s) (s .args .shifts .now) (s .pre .0)) a in
+    (s .pre .0, (omega arith, (omega (arith, s .pre .1 .1 .0), (omega (arith, fits, ap (packetBytes D) e, s .pre .1 .1 .1), omega arith))))
 
 known-requires : tie.Need-known-requires
 known-requires c κs = search needs
@@ -91,16 +87,15 @@ same-length-2 c = search needs
 
 returns-2 : tie.Need-returns-2
 returns-2 c =
-    let r = c .before .before .before .before in
-    let w = r .before .before .before .before in
+    let w = c .before .before .before .before in
     let s = w .before .before .before .before .before .before in
     let D = deskOf (s .args .s) (s .args .shifts .now) in
     let a = s .args .i - s .args .s .k in
     let e : s .args .s .k + a ≡ s .args .i = omega arith in
     let la : a < s .args .s .m = omega arith in
-    let z : (p : ℕ) → bitAt (w .clear .last .0) p ≡ 0 = λ p. ap (λ xs. bitAt xs p) (w .clear .ensures) ∙ zero-bits (length (s .args .out .now)) p in
-    is-packet D (s .args .sources .now) a _ la (c .known .ensures) (r .add-row .kept .1 .1 .1 .1 .0 ∙ w .clear .kept .0 ∙ s .pre .1 .1 .1 ∙ ap (packetBytes D) (sym e))
-    (λ q _. row-in-noughts D (s .args .sources .now) a (w .clear .last .0) (r .add-row .last .1 .1 .1 .1 .0) z (r .add-row .ensures) q)
+    let S = w .put-parity .ensures in
+    let long : length (s .args .out .now) ≡ packetBytes D (s .args .s .k + a) = s .pre .1 .1 .1 ∙ ap (packetBytes D) (sym e) in
+    is-packet D (s .args .sources .now) a _ la (c .known .ensures) (S .size ∙ long) (λ q lq. stored-front _ (parity D (sourcesOf D (s .args .sources .now)) a) _ _ S q (omega (arith, long)))
     ∙ ap (packetOf D (s .args .sources .now)) e
 
 pub encode-packet-spec : {M : Type 1} → statement M
@@ -116,8 +111,7 @@ encode-packet-spec =
     copy-front-requires
     same-length
     returns
-    clear-requires
-    add-row-requires
+    put-parity-requires
     known-requires
     same-length-2
     returns-2)

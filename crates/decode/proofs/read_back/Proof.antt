@@ -1,67 +1,81 @@
--- The packets are put at their places, the sources added to the rows, and the missing sources uncovered: nothing is left in any row exactly if sources encode to the packets.
+-- The packets are put into their rows, the present sources added to the rows at hand, the missing ones uncovered and added too: nothing is left in any row exactly if sources encode to the packets.
 -- Assumes nothing.
-use borrow.Author.Needs.{needs}
+use Prim.Native.Nat.{_+_, _*_, _^_, _≤_, _<_}
+use mathlib.Core.Path.{_≡_}
 use native.Mathlib.Omega.{arith}
-use Rattle.bits.proofs.BitLaws.{zero-bits}
+use borrow.Author.Needs.{needs}
+use lib.ListN.{length}
 use Rattle.table.specs.Table.{deskOf}
-use Rattle.table.proofs.Bounds.{within-bounds, sources-fit}
+use Rattle.table.proofs.Bounds.{within-bounds}
 use Rattle.code.proofs.CodeLaws.{shape-short}
-use Rattle.survivors.specs.Remainders.{rowsBytes}
 use Rattle.survivors.proofs.AtHand.{held-in}
-use Rattle.survivors.proofs.PlaceLaws.{placed-blank}
-use Rattle.decode.proofs.EndLaws.{read-back}
+use Rattle.decode.proofs.EndLaws.{known-blank, ended}
 use Rattle.decode.proofs.read_back.Statement.{statement}
 use Rattle.decode.proofs.read_back.Tie as tie
 
 place-packets-requires : tie.Need-place-packets-requires
-place-packets-requires c κs = let s = c .before .before .before in (s .pre .0, (s .pre .1 .0, (s .pre .1 .1, zero-bits rowsBytes)))
+place-packets-requires c κs = search needs
 
-add-to-rows-requires : tie.Need-add-to-rows-requires
-add-to-rows-requires c κs =
-    let s = c .before .before .before .before .before .before .before in
-    let W = within-bounds (s .args .s) (s .args .shifts .now) (s .pre .0 .within) in
-    (s .pre .0, omega (arith, sources-fit (deskOf (s .args .s) (s .args .shifts .now)) W))
+add-to-rests-requires : tie.Need-add-to-rests-requires
+add-to-rests-requires c κs = search needs
 
 uncover-requires : tie.Need-uncover-requires
 uncover-requires c κs =
-    let p = c .before .before .before .before .before .before in
+    let a = c .before .before .before in
+    let p = a .before .before .before .before in
     let s = p .before .before .before .before in
-    (s .pre .0, λ c q g. placed-blank (deskOf (s .args .s) (s .args .shifts .now)) (s .args .packets .now) _ _ (p .place-packets .ensures) c q (g .1))
+    let W = within-bounds (s .args .s) (s .args .shifts .now) (s .pre .0 .within) in
+    (s .pre .0, (omega (arith, s .pre .1 .1 .1 .0), known-blank (s .args .s) (s .args .shifts .now) (s .args .packets .now) W _ _ (p .place-packets .ensures) (a .add-to-rests .ensures)))
+
+sub-add-to-rests : tie.Need-sub-add-to-rests
+sub-add-to-rests c = omega arith
+
+-- the marks are a word
+marks-fit : (c : tie.After-struct-known) → c .before .before .before .before .before .before .before .before .before .before .before .before .before .before .before .args .s .marks < 2 ^ 64
+marks-fit c = omega arith
+
+add-to-rests-requires-2 : tie.Need-add-to-rests-requires-2
+add-to-rests-requires-2 c κs = search needs
 
 known-requires : tie.Need-known-requires
 known-requires c κs = search needs
 
-known-requires-2 : tie.Need-known-requires-2
-known-requires-2 c κs = search needs
+clear-rows-requires : tie.Need-clear-rows-requires
+clear-rows-requires c κs =
+    let r4 = c .before .before .before in
+    let r3 = r4 .before .before .before .before .before in
+    let r2 = r3 .before .before .before .before in
+    let r1 = r2 .before .before .before .before in
+    let s = r1 .before .before .before .before .before in
+    omega (arith, r4 .rows4 .given, r3 .rows3 .given, r2 .rows2 .given, r1 .rows .given, s .pre .1 .1 .1 .0, s .pre .0 .within .k-high, s .pre .0 .within .m-high)
 
-all-clear-requires : tie.Need-all-clear-requires
-all-clear-requires c κs = search needs
+same-length : tie.Need-same-length
+same-length c = search needs
 
 returns : tie.Need-returns
 returns c =
-    let known = c .before .before .before in
-    let uncover = known .before .before in
-    let rows = uncover .before .before .before in
-    let p = rows .before .before .before .before in
+    let b = c .before .before .before .before .before in
+    let u = b .before .before .before .before .before in
+    let a = u .before .before .before .before in
+    let p = a .before .before .before .before in
     let s = p .before .before .before .before in
     let z = s .args .s in
-    let D = deskOf z (s .args .shifts .now) in
     let W = within-bounds z (s .args .shifts .now) (s .pre .0 .within) in
-    let d = uncover .uncover .result in (
-      read-back D W (s .args .packets .now) (shape-short z (s .args .shifts .now)) (held-in (z .marks) (z .k) (z .m) (s .pre .0 .none-above)) (c .before .before .known2 .ensures) (s .pre .1 .0)
-          (d .count) (d .whole) (c .all-clear .result) _ _ _ _ _ (p .place-packets .ensures) (rows .add-to-rows .ensures) (uncover .uncover .ensures) (c .all-clear .ensures)
-          (omega (arith, known .known .ensures .1, sources-fit D W)) (known .known .ensures .0),
-      known .known .ensures .1,
-    )
+    let d = u .uncover .result in
+    let end = ended z (s .args .shifts .now) (s .args .packets .now) W (marks-fit (b .before .before)) (held-in (z .marks) (z .k) (z .m) (s .pre .0 .none-above)) (shape-short z (s .args .shifts .now))
+    _ _ _ _ (p .place-packets .ensures) (a .add-to-rests .ensures) (d .count) (d .whole) (u .uncover .ensures) (b .add-to-rests2 .ensures) in
+    (end .read (c .before .before .known .ensures) (s .pre .1 .1 .0) (c .clear-rows .result) (c .clear-rows .ensures), (end .short, λ e. end .nothing (c .clear-rows .ensures .so e)))
 
 pub read-back-spec : {M : Type 1} → statement M
 read-back-spec =
     tie.close
     (tie.spec
     place-packets-requires
-    add-to-rows-requires
+    add-to-rests-requires
     uncover-requires
+    sub-add-to-rests
+    add-to-rests-requires-2
     known-requires
-    known-requires-2
-    all-clear-requires
+    clear-rows-requires
+    same-length
     returns)

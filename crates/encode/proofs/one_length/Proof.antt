@@ -33,16 +33,21 @@ returns c =
     let e = c .no-length .ensures in
     answer-refused (numberChecks (s .s .k + s .s .m) (s .packet)) (w .one-of .result) _ (w .one-of .ensures) (c .before .if1 .taken) (e .0) (e .1)
 
-sub-packet-bytes : tie.Need-sub-packet-bytes
-sub-packet-bytes c = omega (arith, named c .1)
+reaches-requires : tie.Need-reaches-requires
+reaches-requires c κs = search needs
 
-packet-bytes-requires : tie.Need-packet-bytes-requires
-packet-bytes-requires c κs = (c .before .before .before .pre, omega (arith, named c .1, named c .2))
+sub-bytes-of : tie.Need-sub-bytes-of
+sub-bytes-of c = omega (arith, named (c .before .before) .1)
+
+bytes-of-requires : tie.Need-bytes-of-requires
+bytes-of-requires c κs =
+    let s = c .before .before .before .before .before in
+    (s .pre, (c .before .reaches .ensures, omega (arith, named (c .before .before) .1, named (c .before .before) .2)))
 
 returns-2 : tie.Need-returns-2
 returns-2 c =
-    let s = c .before .before .before .before .args in
-    answer-done (numberChecks (s .s .k + s .s .m) (s .packet)) 0 (named (c .before) .0) refl (c .packet-bytes .ensures .0)
+    let s = c .before .before .before .before .before .before .args in
+    answer-done (numberChecks (s .s .k + s .s .m) (s .packet)) 0 (named (c .before .before .before) .0) refl (c .bytes-of .ensures .0)
 
 pub one-length-spec : {M : Type 1} → statement M
 one-length-spec =
@@ -52,6 +57,7 @@ one-length-spec =
     one-of-requires
     no-length-requires
     returns
-    sub-packet-bytes
-    packet-bytes-requires
+    reaches-requires
+    sub-bytes-of
+    bytes-of-requires
     returns-2)

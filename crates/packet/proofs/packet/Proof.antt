@@ -15,8 +15,8 @@ open-shape-requires c κs = search needs
 
 returns : tie.Need-returns
 returns c =
-    let o = c .before .before .open-shape in
-    let s = c .before .before .before .before .before .before .args in
+    let o = c .before .open-shape in
+    let s = c .before .before .before .before .before .args in
     let rest = wantedNamedChecks (desk (s .k) (s .m) (s .l) (s .table .now) (s .marks)) (s .packets .now) (s .marks) (s .wanted) (s .out .now) in
     opened-stops (o .ensures) rest _ (c .if1 .taken) refl refl
 
@@ -30,8 +30,8 @@ returns-2 : tie.Need-returns-2
 returns-2 c =
     let r = c .before .before .packet-named in
     let e = c .before .before .before .before .before .before .before in
-    let o = e .before .before .open-shape in
-    let s = e .before .before .before .before .before .before .args in
+    let o = e .before .open-shape in
+    let s = e .before .before .before .before .before .args in
     let cs = shapeChecks (s .k) (s .m) (s .l) (s .table .now) in
     let after = r .last .1 .1 .1 .1 .0 in
     opened-goes (o .ensures) (e .if1 .left) (numbered-by cs refl) (λ marks D. wantedNamedChecks D (s .packets .now) marks (s .wanted) (s .out .now))

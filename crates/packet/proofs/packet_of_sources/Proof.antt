@@ -31,8 +31,11 @@ alone s = let a = s .args .s in sources-alone (a .k) (a .m) (a .marks) (s .pre .
 as-long : (s : tie.Start) → survivorsBytes (deskAt s) ≡ sourcesBytes (deskAt s)
 as-long s = place-all (deskAt s) (s .pre .1 .1 .0) (alone s)
 
-packet-bytes-requires : tie.Need-packet-bytes-requires
-packet-bytes-requires c κs = search needs
+reaches-requires : tie.Need-reaches-requires
+reaches-requires c κs = search needs
+
+bytes-of-requires : tie.Need-bytes-of-requires
+bytes-of-requires c κs = search needs
 
 sources-bytes-requires : tie.Need-sources-bytes-requires
 sources-bytes-requires c κs = search needs
@@ -44,27 +47,27 @@ same-length : tie.Need-same-length
 same-length c = search needs
 
 -- the lengths that were compared are those of the checks
-checked : (c : tie.After-lengths-number) → Checked (lengths (c .before .before .before .before .before .before)) (c .lengths-number .result)
+checked : (c : tie.After-lengths-number) → Checked (lengths (c .before .before .before .before .before .before .before .before)) (c .lengths-number .result)
 checked c =
-    let s = c .before .before .before .before .before .before in
+    let s = c .before .before .before .before .before .before .before .before in
     lengths-are _ (survivorsBytes (deskAt s)) _ (packetBytes (deskAt s) (s .args .i)) (s .args .packets .now) (s .args .out .now) _
-    (c .before .before .sources-bytes .ensures .0 ∙ sym (as-long s)) (c .before .before .before .packet-bytes .ensures .0) (c .lengths-number .ensures)
+    (c .before .before .sources-bytes .ensures .0 ∙ sym (as-long s)) (c .before .before .before .bytes-of .ensures .0) (c .lengths-number .ensures)
 
-passes : (c : tie.Else1) → Checked (lengths (c .before .before .before .before .before .before .before)) 0
-passes c = zero-checked (lengths (c .before .before .before .before .before .before .before)) _ (c .if1 .left) (checked (c .before))
+passes : (c : tie.Else1) → Checked (lengths (c .before .before .before .before .before .before .before .before .before)) 0
+passes c = zero-checked (lengths (c .before .before .before .before .before .before .before .before .before)) _ (c .if1 .left) (checked (c .before))
 
 abbrev Exact : tie.Start → Type 0
 Exact s = (length (s .args .packets .now) ≡ survivorsBytes (deskAt s)) × (length (s .args .out .now) ≡ packetBytes (deskAt s) (s .args .i))
 
-exact : (c : tie.Else1) → Exact (c .before .before .before .before .before .before .before)
+exact : (c : tie.Else1) → Exact (c .before .before .before .before .before .before .before .before .before)
 exact c =
-    let s = c .before .before .before .before .before .before .before in
+    let s = c .before .before .before .before .before .before .before .before .before in
     lengths-exact (survivorsBytes (deskAt s)) (packetBytes (deskAt s) (s .args .i)) (s .args .packets .now) (s .args .out .now) (passes c)
 
 returns : tie.Need-returns
 returns c =
     let n = c .before in
-    let s = n .before .before .before .before .before .before in
+    let s = n .before .before .before .before .before .before .before .before in
     answer-stops (lengths s) (decodeChecks (deskAt s) (s .args .packets .now)) (n .lengths-number .result) _ (checked n) (c .if1 .taken) refl refl
 
 known-requires : tie.Need-known-requires
@@ -73,7 +76,7 @@ known-requires c κs = search needs
 encode-packet-requires : tie.Need-encode-packet-requires
 encode-packet-requires c κs =
     let e = c .before .before in
-    let s = e .before .before .before .before .before .before .before in
+    let s = e .before .before .before .before .before .before .before .before .before in
     (s .pre .0 .within, (s .pre .1 .1 .1, (exact e .0 ∙ as-long s, exact e .1)))
 
 same-length-2 : tie.Need-same-length-2
@@ -83,7 +86,7 @@ returns-2 : tie.Need-returns-2
 returns-2 c =
     let w = c .before .before in
     let e = w .before .before .before in
-    let s = e .before .before .before .before .before .before .before in
+    let s = e .before .before .before .before .before .before .before .before .before in
     let D = deskAt s in
     let packets = s .args .packets .now in
     let here = s .pre .1 .1 .0 in
@@ -97,7 +100,8 @@ pub packet-of-sources-spec : {M : Type 1} → statement M
 packet-of-sources-spec =
     tie.close
     (tie.spec
-    packet-bytes-requires
+    reaches-requires
+    bytes-of-requires
     sources-bytes-requires
     lengths-number-requires
     same-length

@@ -19,8 +19,8 @@ refused-requires c κs = search needs
 
 returns : tie.Need-returns
 returns c =
-    let o = c .before .before .before .open-marked in
-    let s = c .before .before .before .before .before .before .before .args in
+    let o = c .before .before .open-marked in
+    let s = c .before .before .before .before .before .before .args in
     let cs = markedChecks (s .k) (s .m) (s .l) (s .table .now) (s .marks) in
     let E = desk (s .k) (s .m) (s .l) (s .table .now) (s .marks) in
     let low = checked-below 8 cs (o .result .number) (omega arith) (below-by 8 cs refl) (o .ensures .numbered) in
@@ -30,8 +30,8 @@ returns c =
 rebuild-lent-requires : tie.Need-rebuild-lent-requires
 rebuild-lent-requires c κs =
     let e = c .before .before .before .before in
-    let o = e .before .before .open-marked in
-    let s = e .before .before .before .before .before .before .args in
+    let o = e .before .open-marked in
+    let s = e .before .before .before .before .before .args in
     opened-ready (o .ensures) (e .if1 .left)
 
 same-length : tie.Need-same-length
@@ -41,8 +41,8 @@ returns-2 : tie.Need-returns-2
 returns-2 c =
     let r = c .before .before .rebuild-lent in
     let e = c .before .before .before .before .before .before .before in
-    let o = e .before .before .open-marked in
-    let s = e .before .before .before .before .before .before .args in
+    let o = e .before .open-marked in
+    let s = e .before .before .before .before .before .args in
     let cs = markedChecks (s .k) (s .m) (s .l) (s .table .now) (s .marks) in
     let after = r .last .1 .1 .1 .0 in
     opened-goes (o .ensures) (e .if1 .left) (numbered-by cs refl) (λ _ D. rebuildLentChecks D (s .packets .now) (s .out .now))

@@ -15,10 +15,10 @@ use Rattle.survivors.proofs.stray.Statement.{statement}
 use Rattle.survivors.proofs.stray.Tie as tie
 
 abbrev Inv-loop : tie.InvT-loop
-Inv-loop s shifts packets n from₀ i₀ from i = AtPacket (deskOf s shifts) (s .marks) (s .k + s .m) from i × ClearBelow s shifts packets i
+Inv-loop s shifts reaches packets n from₀ i₀ from i = AtPacket (deskOf s shifts) (s .marks) (s .k + s .m) from i × ClearBelow s shifts packets i
 
 abbrev μ-loop : tie.MeasureT-loop
-μ-loop s shifts packets n from₀ i₀ from i = s .k + s .m - i
+μ-loop s shifts reaches packets n from₀ i₀ from i = s .k + s .m - i
 
 add-n : tie.Need-add-n Inv-loop μ-loop
 add-n c = search needs
@@ -33,13 +33,13 @@ loop-holds c =
     (at-first (deskOf (s .s) (s .shifts .now)) (s .s .marks) _ _ N, clear-below-first (s .s) (s .shifts .now) (s .packets .now) _ N)
 
 -- the packet stands within the packets
-room : (c : tie.After-packet-bytes Inv-loop μ-loop) → let l = c .before .before in l .loop .from + c .packet-bytes .result ≤ length (l .before .before .before .before .args .packets .now)
+room : (c : tie.After-bytes-of Inv-loop μ-loop) → let l = c .before .before in l .loop .from + c .bytes-of .result ≤ length (l .before .before .before .before .args .packets .now)
 room c =
     let t = c .before in
     let l = t .before in
     let s = l .before .before .before .before in
     let D = deskOf (s .args .s) (s .args .shifts .now) in
-    omega (arith, s .pre .1, c .packet-bytes .ensures .0, at-room D (s .args .s .marks) _ _ _ (l .loop .inv .0) (t .loop-test .taken))
+    omega (arith, s .pre .1 .1, c .bytes-of .ensures .0, at-room D (s .args .s .marks) _ _ _ (l .loop .inv .0) (t .loop-test .taken))
 
 -- the test tells whether it is clear above its last bit
 told : (c : tie.After-clear-above Inv-loop μ-loop)
@@ -53,18 +53,18 @@ told c =
     let l = b .before .before in
     let s = l .before .before .before .before .args in
     let D = deskOf (s .s) (s .shifts .now) in
-    let same : l .loop .from + b .packet-bytes .result - l .loop .from ≡ packetBytes D (l .loop .i) = omega (arith, b .packet-bytes .ensures .0) in
-    subst (λ x. Tells (c .clear-above .result) (ClearFrom (slice (s .packets .now) (l .loop .from) (packetBytes D (l .loop .i))) x)) (last .packet-bits .ensures .0)
-    (subst (λ x. Tells (c .clear-above .result) (ClearFrom (take x (drop (l .loop .from) (s .packets .now))) (last .packet-bits .result))) same (c .clear-above .ensures))
+    let same : l .loop .from + b .bytes-of .result - l .loop .from ≡ packetBytes D (l .loop .i) = omega (arith, b .bytes-of .ensures .0) in
+    subst (λ x. Tells (c .clear-above .result) (ClearFrom (slice (s .packets .now) (l .loop .from) (packetBytes D (l .loop .i))) x)) (last .bits-of .ensures .0)
+    (subst (λ x. Tells (c .clear-above .result) (ClearFrom (take x (drop (l .loop .from) (s .packets .now))) (last .bits-of .result))) same (c .clear-above .ensures))
 
-packet-bytes-requires : tie.Need-packet-bytes-requires Inv-loop μ-loop
-packet-bytes-requires c κs = search needs
+bytes-of-requires : tie.Need-bytes-of-requires Inv-loop μ-loop
+bytes-of-requires c κs = search needs
 
 add-end : tie.Need-add-end Inv-loop μ-loop
 add-end c = omega (arith, room c)
 
-packet-bits-requires : tie.Need-packet-bits-requires Inv-loop μ-loop
-packet-bits-requires c κs = search needs
+bits-of-requires : tie.Need-bits-of-requires Inv-loop μ-loop
+bits-of-requires c κs = search needs
 
 sub-clear-above : tie.Need-sub-clear-above Inv-loop μ-loop
 sub-clear-above c = search needs
@@ -104,7 +104,7 @@ loop-again c =
     let D = deskOf (s .s) (s .shifts .now) in
     let A = l .loop .inv .0 in
     let N = c .next-present2 .ensures in (
-      at-next D (s .s .marks) _ _ _ A (t .loop-test .taken) _ _ (ap (λ x. l .loop .from + x) (b .packet-bytes .ensures .0)) N,
+      at-next D (s .s .marks) _ _ _ A (t .loop-test .taken) _ _ (ap (λ x. l .loop .from + x) (b .bytes-of .ensures .0)) N,
       clear-below-next (s .s) (s .shifts .now) (s .packets .now) _ _ A (t .loop-test .taken) _ N (l .loop .inv .1) (told a .so (not-false _ (c .before .if1 .left))),
     )
 
@@ -124,9 +124,9 @@ stray-spec =
     add-n
     next-present-requires
     loop-holds
-    packet-bytes-requires
+    bytes-of-requires
     add-end
-    packet-bits-requires
+    bits-of-requires
     sub-clear-above
     part-clear-above-start
     part-clear-above-end

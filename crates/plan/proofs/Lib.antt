@@ -1,0 +1,4 @@
+pub mod ListedLaws
+pub mod HeldLaws
+pub mod EvenLaws
+pub mod Planned

@@ -1,3 +1,0 @@
-pub mod WordLaws
-pub mod CarryLaws
-pub mod FromLaws

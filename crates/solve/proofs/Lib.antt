@@ -1,0 +1,4 @@
+pub mod PlaceLaws
+pub mod TermLaws
+pub mod EvenRowLaws
+pub mod EvenColumnLaws
