@@ -68,7 +68,10 @@ put-shifted-requires c κs =
         (
           λ e. omega (arith, N .columns-in (l .i) li),
           (
-            (c .before .before .before .before .before .before .listed-shift .ensures .1, c .before .before .before .listed-shift2 .ensures .1),
+            (
+              omega (arith, c .before .before .before .before .before .before .listed-shift .ensures .1, c .before .before .before .listed-shift2 .ensures .1),
+              omega (arith, c .before .before .before .before .before .before .listed-shift .ensures .1, c .before .before .before .listed-shift2 .ensures .1),
+            ),
             λ p. l .inv .2 .others (at (s .args .columns .now) (l .i)) p (λ j lj. P .apart j (l .i) (omega arith) li (λ e. omega arith)) ∙ s .pre .1 .1 .1 .1 (l .i) p li,
           ),
         ),
