@@ -17,22 +17,40 @@ void must(uint64_t number)
 
 const shape shapes[SHAPES] = {{2, 2}, {4, 4}, {6, 3}, {WH_MAX_K, WH_MAX_M}};
 
+/* What goes by the table, which is there. */
+static void finish_job(job *j)
+{
+    unsigned k = j->k, m = j->m;
+    for (unsigned a = 0; a < m; a++) {
+        wh_measured parity = wh_packet_length(k, m, LENGTH, j->table, m * k, k + a + 1);
+        must(parity.number);
+        j->parity_bytes[a] = (size_t)parity.length;
+    }
+    wh_measured all = wh_parities_length(k, m, LENGTH, j->table, m * k);
+    must(all.number);
+    j->parities_bytes = (size_t)all.length;
+    random_restart(1);
+    random_bytes(j->sources, sizeof j->sources);
+    lose_first(j, 1);
+}
+
 job make_job(shape size, unsigned family)
 {
-    unsigned k = size.k, m = size.m;
-    job j = {.k = k, .m = m, .family = family};
-    must(wh_family_table(k, m, family, j.table, m * k));
-    for (unsigned a = 0; a < m; a++) {
-        wh_measured parity = wh_packet_length(k, m, LENGTH, j.table, m * k, k + a + 1);
-        must(parity.number);
-        j.parity_bytes[a] = (size_t)parity.length;
+    job j = {.k = size.k, .m = size.m, .family = family};
+    must(wh_family_table(j.k, j.m, family, j.table, j.m * j.k));
+    finish_job(&j);
+    return j;
+}
+
+job make_uneven_job(shape size)
+{
+    job j = {.k = size.k, .m = size.m};
+    for (unsigned a = 0; a < j.m; a++) {
+        for (unsigned b = 0; b < j.k; b++) {
+            j.table[a * j.k + b] = (uint8_t)((a + (a + 1 == j.m)) * (b + (b + 1 == j.k)));
+        }
     }
-    wh_measured all = wh_parities_length(k, m, LENGTH, j.table, m * k);
-    must(all.number);
-    j.parities_bytes = (size_t)all.length;
-    random_restart(1);
-    random_bytes(j.sources, sizeof j.sources);
-    lose_first(&j, 1);
+    finish_job(&j);
     return j;
 }
 
@@ -60,6 +78,11 @@ static uint64_t lowest_bits(unsigned count)
 void lose_first(job *j, unsigned lost)
 {
     put_at_hand(j, lowest_bits(j->k) << lost);
+}
+
+void lose_last(job *j, unsigned lost)
+{
+    put_at_hand(j, lowest_bits(j->k - lost) | lowest_bits(lost) << (j->k + j->m - lost));
 }
 
 /* So many of the lowest bits, any of them. */

@@ -32,13 +32,18 @@ typedef struct {
     unsigned missing[WH_MAX_K]; /* those sources, rising */
 } job;
 
-/* The first source is missing, and the first parity at hand. */
+/* The first source is missing, and the first parity at hand. The uneven job is of no family: entry
+ * (a, b) is the product of a and b, counted from 0, where the last of each counts one more. Its
+ * differences grow, and three sources or more with the last row and column are no even set. */
 job make_job(shape size, unsigned family);
+job make_uneven_job(shape size);
 
 /* Puts k packets at hand: those of these marks; all sources but the first `lost`, and as many of
- * the first parities; or any, drawn at random, with so many sources missing. */
+ * the first parities; all but the last `lost`, and as many of the last parities; or any, drawn at
+ * random, with so many sources missing. */
 void put_at_hand(job *j, uint64_t marks);
 void lose_first(job *j, unsigned lost);
+void lose_last(job *j, unsigned lost);
 void lose_drawn(job *j, unsigned lost);
 
 /* The parity at hand in the place of the missing source i of the list. */

@@ -39,6 +39,13 @@
  *   2, and so on. Packets 3 and 4 are marks 12. Exactly k marks are set: where more packets are
  *   there, mark k of them and lend only those.
  *
+ * STRIPES
+ *   A log that is longer than k sources is cut into stripes, one after another, each of k sources
+ *   of l bytes and coded by itself. All stripes have the same table and the same l, and card i has
+ *   packet i of each, so they also have the same marks. wh_rebuild takes one stripe, wh_rebuild_log
+ *   1 to 16 of them (WH_MAX_STRIPES): the packets at hand of the first stripe, then those of the
+ *   second, and so on, with no gaps. The sources come out in the same way.
+ *
  * STEPS, PROGRESS
  *   Decoding uncovers one bit at a time. progress[b - 1] says how many bits of source b are
  *   uncovered; it stays 0 for a source that is at hand and for numbers above k. A missing source is
@@ -84,6 +91,7 @@
  *     19  WH_FAMILY          the family is outside 1 to 3
  *      2  WH_LENGTH          l is outside 1 to 56
  *      3  WH_TABLE           the table is not m * k bytes long, or an entry is above 64
+ *     25  WH_STRIPES         the stripes are outside 1 to 16
  *      6  WH_PACKET          a packet number is outside 1 to n, a source number outside 1 to k,
  *                            or a mark above n is set
  *      7  WH_MARKS           the marks are not exactly k
@@ -91,11 +99,12 @@
  *                            number above k
  *     36  WH_CUT             the size to cut a packet by is outside 1 to 254
  *      4  WH_INPUT           an input buffer has not the exact length: sources take k * l bytes,
- *                            packets at hand take wh_survivors_length; or a packet that is to be
- *                            cut into blocks is above WH_LONGEST bytes
+ *                            packets at hand take wh_survivors_length, those of a log that much
+ *                            for each stripe; or a packet that is to be cut into blocks is above
+ *                            WH_LONGEST bytes
  *      5  WH_OUTPUT          an output buffer has not the exact length: a table takes m * k bytes,
- *                            sources k * l, a packet wh_packet_length, all parities
- *                            wh_parities_length
+ *                            sources k * l, those of a log that much for each stripe, a packet
+ *                            wh_packet_length, all parities wh_parities_length
  *     22  WH_STEPS_UNEQUAL   the two lists of steps differ in length
  *     23  WH_STEP_NOT_BARE   a step of the list is not bare when its turn comes; nor is one whose
  *                            numbers are those of no parity or no source
@@ -131,15 +140,17 @@
  *   A buffer is a pointer and its length in bytes, always in that order. No call reads or writes
  *   anything else, and none keeps a pointer after it returns. A refused call writes nothing: your
  *   output keeps its old bytes, and the results that come back by value are 0 unless a call says
- *   otherwise. Buffers that you lend to one call must not overlap. Any numbers and any bytes may be
- *   passed: nothing is cut to fewer bits on its way in, and lengths have 64 bits on every board.
- *   NULL is a buffer of length 0, whatever length stands beside it, and is refused as that: with
- *   WH_TABLE, WH_INPUT, WH_OUTPUT, WH_BLOCK_SHORT, for a destination WH_ROOM, for a list of steps
- *   WH_STEPS_UNEQUAL or WH_STEPS_EARLY. Length 0 is right in three places only: the destination of
- *   a block or a run that has no information, the packet that wh_write_blocks cuts, and both lists
- *   of steps where no source is missing. So a packet that is NULL is an empty one, and not refused,
- *   nor are two such lists there: look at a pointer that may be NULL before you lend it. Progress
- *   is not NULL: it is always an array of WH_MAX_K numbers.
+ *   otherwise. There is one exception: wh_rebuild_log stops at the first bad stripe, with WH_STRAY
+ *   or WH_FOREIGN, and has then written the sources of the good stripes before it; from there on
+ *   the output keeps its old bytes. Buffers that you lend to one call must not overlap. Any numbers
+ *   and any bytes may be passed: nothing is cut to fewer bits on its way in, and lengths have 64
+ *   bits on every board. NULL is a buffer of length 0, whatever length stands beside it, and is
+ *   refused as that: with WH_TABLE, WH_INPUT, WH_OUTPUT, WH_BLOCK_SHORT, for a destination WH_ROOM,
+ *   for a list of steps WH_STEPS_UNEQUAL or WH_STEPS_EARLY. Length 0 is right in three places only:
+ *   the destination of a block or a run that has no information, the packet that wh_write_blocks
+ *   cuts, and both lists of steps where no source is missing. So a packet that is NULL is an empty
+ *   one, and not refused, nor are two such lists there: look at a pointer that may be NULL before
+ *   you lend it. Progress is not NULL: it is always an array of WH_MAX_K numbers.
  *
  * WARNINGS
  *   With -Wall, gcc and clang warn where a call's number or struct is not looked at at all, and
@@ -156,9 +167,9 @@
 
 #include "windhawker_limits.h"
 
-#define WH_VERSION "0.6.1"
+#define WH_VERSION "0.7.0"
 #define WH_VERSION_MAJOR 0
-#define WH_VERSION_MINOR 6
+#define WH_VERSION_MINOR 7
 
 /* What a compiler is told about the calls; one that does not know the words is told nothing.
  * WH_LOOK_AT_IT: the answer is looked at. WH_READS(3, 4): parameter 3 is a buffer that is read, of
@@ -213,11 +224,11 @@ static inline const char *wh_meaning(uint64_t number)
     case WH_LENGTH: return "the source length is outside 1 to " WH_TEXT(WH_MAX_LENGTH);
     case WH_TABLE: return "the table has a wrong length or an entry above " WH_TEXT(WH_MAX_SHIFT);
     case WH_INPUT: return "an input buffer has not the exact length: sources take k * l bytes, "
-                          "packets at hand take wh_survivors_length, a packet that is to be cut "
-                          "into blocks at most " WH_TEXT(WH_LONGEST);
+                          "packets at hand take wh_survivors_length (times the stripes of a log), "
+                          "a packet that is to be cut into blocks at most " WH_TEXT(WH_LONGEST);
     case WH_OUTPUT: return "an output buffer has not the exact length: a table takes m * k bytes, "
-                           "sources k * l, a packet wh_packet_length, all parities "
-                           "wh_parities_length";
+                           "sources k * l (times the stripes of a log), a packet "
+                           "wh_packet_length, all parities wh_parities_length";
     case WH_PACKET: return "no such packet, source or mark: packets are 1 to k + m, "
                            "sources 1 to k, marks the lowest k + m bits";
     case WH_MARKS: return "the marks are not exactly k";
@@ -238,6 +249,7 @@ static inline const char *wh_meaning(uint64_t number)
     case WH_STEPS_UNEQUAL: return "the lists of steps differ in length";
     case WH_STEP_NOT_BARE: return "a step is not bare when its turn comes";
     case WH_STEPS_EARLY: return "the list of steps ends before all missing sources are finished";
+    case WH_STRIPES: return "the stripes are outside 1 to " WH_TEXT(WH_MAX_STRIPES);
     case WH_CUT: return "the size to cut a packet by is outside 1 to " WH_TEXT(WH_MAX_INFORMATION);
     default: return "no number of the list";
     }
@@ -461,6 +473,13 @@ typedef struct {
 
 typedef struct {
     uint64_t number;
+    uint64_t good;  /* stripes that are written: all when done; with WH_STRAY and WH_FOREIGN those
+                       before the first bad one; else 0 */
+    uint64_t count; /* steps made, once for all stripes */
+} wh_log_rebuilt;
+
+typedef struct {
+    uint64_t number;
     uint64_t buffer; /* 0 none, 1 survivors, 2 rebuilt */
     uint64_t start;  /* where the source starts in that buffer */
     uint64_t length; /* its bytes */
@@ -470,6 +489,11 @@ WH_LOOK_AT_IT
 uint64_t whx_rebuild(uint64_t k, uint64_t m, uint64_t l, const uint8_t *table, uint64_t table_len,
                      uint64_t marks, const uint8_t *packets, uint64_t packets_len, uint8_t *out,
                      uint64_t out_len, uint64_t *count);
+WH_LOOK_AT_IT
+uint64_t whx_rebuild_log(uint64_t k, uint64_t m, uint64_t l, const uint8_t *table,
+                         uint64_t table_len, uint64_t stripes, uint64_t marks,
+                         const uint8_t *packets, uint64_t packets_len, uint8_t *out,
+                         uint64_t out_len, uint64_t *good, uint64_t *count);
 WH_LOOK_AT_IT
 uint64_t whx_packet(uint64_t k, uint64_t m, uint64_t l, const uint8_t *table, uint64_t table_len,
                     uint64_t marks, const uint8_t *packets, uint64_t packets_len, uint64_t packet,
@@ -492,6 +516,34 @@ static inline wh_rebuilt wh_rebuild(uint64_t k, uint64_t m, uint64_t l, const ui
     rebuilt.number = whx_rebuild(k, m, l, wh_read_place(table), table == NULL ? 0 : table_len,
                                  marks, wh_read_place(packets), packets == NULL ? 0 : packets_len,
                                  wh_write_place(out), out == NULL ? 0 : out_len, &rebuilt.count);
+    return rebuilt;
+}
+
+/* Rebuilds a log of up to WH_MAX_STRIPES stripes, stripe after stripe, as wh_rebuild does one. The
+ * packets at hand of each stripe, wh_survivors_length bytes, stand behind those of the stripe
+ * before it, and so do its sources in the output, k * l bytes: lend stripes times as many of both.
+ * All stripes have the same marks, and in what order their bits are uncovered is worked out once.
+ * Done, good is the stripes, and the count, which all stripes have in common, is that of one. With
+ * WH_STRAY or WH_FOREIGN, which are those of the first bad stripe, good is how many stripes stand
+ * before it. Their sources are written; the output from there on, the bad stripe's own place too,
+ * keeps its old bytes, and the count is 0. With any other refusal nothing is written and good is 0;
+ * with WH_STALL the count is the steps made before the stall, else it is 0. The stripes stand
+ * before the marks; no compiler tells the two apart. The call has the missing bits of all stripes
+ * on its stack and takes up to 10 KiB of it, where every other call takes at most 2: with less,
+ * call wh_rebuild for each stripe. Checks 1 2 3 25 6 7 4 5 8 9 10. */
+WH_LOOK_AT_IT WH_READS(4, 5) WH_READS(8, 9) WH_WRITES(10, 11)
+static inline wh_log_rebuilt wh_rebuild_log(uint64_t k, uint64_t m, uint64_t l,
+                                            const uint8_t *table, uint64_t table_len,
+                                            uint64_t stripes, uint64_t marks,
+                                            const uint8_t *packets, uint64_t packets_len,
+                                            uint8_t *out, uint64_t out_len)
+{
+    wh_log_rebuilt rebuilt;
+    rebuilt.number =
+        whx_rebuild_log(k, m, l, wh_read_place(table), table == NULL ? 0 : table_len, stripes,
+                        marks, wh_read_place(packets), packets == NULL ? 0 : packets_len,
+                        wh_write_place(out), out == NULL ? 0 : out_len, &rebuilt.good,
+                        &rebuilt.count);
     return rebuilt;
 }
 

@@ -10,6 +10,7 @@
 #define WH_MAX_SHIFT 64
 #define WH_LONGEST 64
 #define WH_FAMILIES 3
+#define WH_MAX_STRIPES 16
 #define WH_MAX_INFORMATION 254
 #define WH_BLOCKS_LONGEST 320
 
@@ -44,6 +45,7 @@
 #define WH_STEPS_UNEQUAL 22
 #define WH_STEP_NOT_BARE 23
 #define WH_STEPS_EARLY 24
+#define WH_STRIPES 25
 #define WH_CUT 36
 
 #endif

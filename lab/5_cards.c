@@ -264,19 +264,18 @@ static size_t read_packets(const job *j, uint64_t marks, FILE *const *cards, uin
     return used;
 }
 
-/* Rebuilds the next stripe, whose first byte is byte `done` of the log. */
-static void rebuild_stripe(const job *j, uint64_t marks, FILE *const *cards, uint64_t done,
-                           uint8_t *sources)
+/* Rebuilds the next so many stripes in one call. Where one of them is bad, those before it are good
+ * and their sources are written. */
+static wh_log_rebuilt rebuild_next(const job *j, uint64_t marks, FILE *const *cards,
+                                   uint64_t stripes, uint8_t *sources)
 {
-    uint8_t packets[WH_MAX_K * WH_LONGEST];
-    size_t got = read_packets(j, marks, cards, packets);
-    wh_rebuilt rebuilt = wh_rebuild(j->k, j->m, j->l, j->table, j->table_len, marks, packets, got,
-                                    sources, j->stripe);
-    if (rebuilt.number != WH_DONE) {
-        fprintf(stderr, "cards: stripe %" PRIu64 ": %" PRIu64 ", %s\n", done / j->stripe + 1,
-                rebuilt.number, wh_meaning(rebuilt.number));
-        exit(1);
+    uint8_t packets[WH_MAX_STRIPES * WH_MAX_K * WH_LONGEST];
+    size_t got = 0;
+    for (uint64_t i = 0; i < stripes; i++) {
+        got += read_packets(j, marks, cards, packets + got);
     }
+    return wh_rebuild_log(j->k, j->m, j->l, j->table, j->table_len, stripes, marks, packets, got,
+                          sources, (size_t)stripes * j->stripe);
 }
 
 /* The cards that were not needed must be what these sources encode to. */
@@ -309,18 +308,35 @@ static void refuse_more_log(const job *j, const uint8_t *sources, size_t used)
     }
 }
 
-static void rebuild_stripes(const job *j, uint64_t marks, FILE *const *cards, uint64_t length,
-                            const output *log)
+/* Puts a stripe's sources behind the log, of which `left` bytes are still to come. */
+static void put_stripe(const job *j, uint64_t marks, FILE *const *cards, uint64_t left,
+                       const uint8_t *sources, const output *log)
 {
-    uint8_t sources[WH_MAX_K * WH_MAX_LENGTH];
-    for (uint64_t done = 0; done < length; done += j->stripe) {
-        size_t used = length - done < j->stripe ? (size_t)(length - done) : j->stripe;
-        rebuild_stripe(j, marks, cards, done, sources);
-        compare_other_cards(j, marks, cards, sources);
-        refuse_more_log(j, sources, used);
-        put(log, sources, used);
-        if (length - done == used && sources[used - 1] == 0) {
-            fputs("cards: the log ends with a zero byte: is LENGTH what write said?\n", stderr);
+    size_t used = left < j->stripe ? (size_t)left : j->stripe;
+    compare_other_cards(j, marks, cards, sources);
+    refuse_more_log(j, sources, used);
+    put(log, sources, used);
+    if (left == used && sources[used - 1] == 0) {
+        fputs("cards: the log ends with a zero byte: is LENGTH what write said?\n", stderr);
+    }
+}
+
+/* As many stripes at a time as the library takes, and no more than are left. */
+static void rebuild_stripes(const job *j, uint64_t marks, FILE *const *cards, uint64_t stripes,
+                            uint64_t length, const output *log)
+{
+    uint8_t sources[WH_MAX_STRIPES * WH_MAX_K * WH_MAX_LENGTH];
+    for (uint64_t first = 0; first < stripes; first += WH_MAX_STRIPES) {
+        uint64_t next = stripes - first < WH_MAX_STRIPES ? stripes - first : WH_MAX_STRIPES;
+        wh_log_rebuilt rebuilt = rebuild_next(j, marks, cards, next, sources);
+        for (uint64_t i = 0; i < rebuilt.good; i++) {
+            put_stripe(j, marks, cards, length - (first + i) * j->stripe, sources + i * j->stripe,
+                       log);
+        }
+        if (rebuilt.number != WH_DONE) {
+            fprintf(stderr, "cards: stripe %" PRIu64 ": %" PRIu64 ", %s\n",
+                    first + rebuilt.good + 1, rebuilt.number, wh_meaning(rebuilt.number));
+            exit(1);
         }
     }
 }
@@ -333,7 +349,7 @@ static void read_cards(const job *j, uint64_t length)
     refuse_half_written(j);
     refuse_more_cards(j);
     uint64_t marks = open_cards(j, stripes, cards);
-    rebuild_stripes(j, marks, cards, length, begin_output(j->log));
+    rebuild_stripes(j, marks, cards, stripes, length, begin_output(j->log));
     finish_outputs();
     for (size_t i = 0; i < CARDS_MOST; i++) {
         if (cards[i] != NULL) {

@@ -24,10 +24,10 @@ static void describe(const question *q, char *words)
 {
     int used = snprintf(words, WORDS_MOST,
                         "k %" PRIu64 " m %" PRIu64 " l %" PRIu64 " family %" PRIu64
-                        " marks %" PRIu64 " packet %" PRIu64 " source %" PRIu64 " size %" PRIu64
-                        " lengths %zu %zu %zu %zu %zu %zu, in hex:",
-                        q->k, q->m, q->l, q->family, q->marks, q->packet, q->source, q->size,
-                        q->table.length, q->input.length, q->rebuilt.length,
+                        " stripes %" PRIu64 " marks %" PRIu64 " packet %" PRIu64 " source %" PRIu64
+                        " size %" PRIu64 " lengths %zu %zu %zu %zu %zu %zu, in hex:",
+                        q->k, q->m, q->l, q->family, q->stripes, q->marks, q->packet, q->source,
+                        q->size, q->table.length, q->input.length, q->rebuilt.length,
                         q->step_parities.length, q->step_sources.length, q->output.length);
     used = describe_bytes("table", &q->table, words, used);
     used = describe_bytes("input", &q->input, words, used);

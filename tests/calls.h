@@ -5,6 +5,7 @@
 #include "calls_block.h"
 #include "calls_chain.h"
 #include "calls_encode.h"
+#include "calls_log.h"
 #include "calls_packet.h"
 #include "calls_rebuild.h"
 #include "calls_steps.h"
@@ -22,6 +23,7 @@ static const call *const calls[] = {
     &next_step_call,
     &check_steps_call,
     &rebuild_call,
+    &rebuild_log_call,
     &packet_call,
     &look_call,
     &block_call,

@@ -121,6 +121,51 @@ turned_bit_is_refused() {
     refused "$foreign" read_sample
 }
 
+# The parities of a log with so many stripes of two bytes; the sources are lost.
+write_stripes() { # STRIPES
+    rm -rf "$room/sample"
+    mkdir "$room/sample"
+    random_log 12 $((2 * $1)) >"$room/sample/log"
+    cards write 2 3 1 "$room/sample/log" "$room/sample" || return
+    rm "$room/sample/card_1" "$room/sample/card_2"
+}
+
+read_stripes() { # STRIPES
+    cards read 2 3 1 $((2 * $1)) "$room/sample" "$room/sample/back"
+}
+
+# Fewer stripes than the library takes in a call, as many, and more.
+stripes_of_several_calls() {
+    for stripes in 1 $((WH_MAX_STRIPES - 1)) "$WH_MAX_STRIPES" $((WH_MAX_STRIPES + 1)) \
+        $((2 * WH_MAX_STRIPES)) $((5 * WH_MAX_STRIPES + 3)); do
+        write_stripes "$stripes" && read_stripes "$stripes" &&
+            cmp "$room/sample/log" "$room/sample/back" || return
+    done
+}
+
+# The first of the bad stripes is named, whichever call it is read in; the last one is bad too.
+bad_stripe_is_named() {
+    last=$((2 * WH_MAX_STRIPES + 8))
+    for stripe in 1 2 "$WH_MAX_STRIPES" $((WH_MAX_STRIPES + 1)) $((last - 1)); do
+        write_stripes "$last" || return
+        rm "$room/sample/card_5"
+        turn_bit "$room/sample/card_3" $((2 * last - 1))
+        refused "stripe $last: $WH_FOREIGN, no sources encode to these packets" read_stripes "$last" ||
+            return
+        turn_bit "$room/sample/card_3" $((2 * stripe - 1))
+        refused "stripe $stripe: $WH_FOREIGN, no sources" read_stripes "$last" || return
+    done
+}
+
+# A card that was not needed, and differs in a stripe before the bad one, is told first.
+good_stripes_before_a_bad_one_are_compared() {
+    write_stripes 5 || return
+    turn_bit "$room/sample/card_4" 7
+    refused "stripe 4: $WH_FOREIGN," read_stripes 5 || return
+    turn_bit "$room/sample/card_5" 4
+    refused 'a card is bad or of another log, or K, M or L is wrong, in' read_stripes 5
+}
+
 short_card_counts_as_lost() {
     write_sample || return
     rm "$room/sample/card_1"

@@ -221,6 +221,30 @@ void damage(bytes *packets)
     }
 }
 
+void encode_log(question *q, const uint8_t *sources)
+{
+    size_t packets = (size_t)survivors_bytes(q), stripe = (size_t)(q->k * q->l);
+    q->input.length = (size_t)q->stripes * packets;
+    for (size_t t = 0; t < q->stripes; t++) {
+        encode_survivors(q, sources + t * stripe, q->input.at + t * packets);
+    }
+}
+
+void fit_log(question *q)
+{
+    bytes sources;
+    set_bytes(&sources, q->stripes * q->k * q->l);
+    set_bytes(&q->output, sources.length);
+    encode_log(q, sources.at);
+}
+
+void damage_stripe(question *q, uint64_t t)
+{
+    question stripe = stripe_question(q, t);
+    damage(&stripe.input);
+    memcpy(q->input.at + t * stripe.input.length, stripe.input.at, stripe.input.length);
+}
+
 void fit_steps(question *q)
 {
     steps list;
@@ -297,6 +321,19 @@ void draw_for_rebuild(question *q)
     fit_survivors(q, q->k * q->l);
     if (random_below(2) == 0) {
         damage(&q->input);
+    }
+}
+
+/* As many stripes as the input has room for, at most. One, two or, one in three, none of them is
+ * damaged. */
+void draw_for_rebuild_log(question *q)
+{
+    draw_for_survivors_length(q);
+    uint64_t room = WH_MAX_K * WH_LONGEST / survivors_bytes(q);
+    q->stripes = random_between(1, room < WH_MAX_STRIPES ? room : WH_MAX_STRIPES);
+    fit_log(q);
+    for (uint64_t damaged = random_below(3); damaged > 0; damaged--) {
+        damage_stripe(q, random_below(q->stripes));
     }
 }
 

@@ -39,6 +39,11 @@ void fit_sources(question *q, uint64_t output_length);
 void fit_survivors(question *q, uint64_t output_length); /* encoded from random sources */
 void damage(bytes *packets);
 
+/* The same for a log of as many stripes as are already there: all of them fit into the input. */
+void encode_log(question *q, const uint8_t *sources);
+void fit_log(question *q); /* encoded from random sources */
+void damage_stripe(question *q, uint64_t t);
+
 /* The steps of a walk, in a random order, until nothing is bare or a list is full. */
 void fit_steps(question *q);
 
@@ -53,6 +58,7 @@ void draw_for_walk(question *q);
 void draw_for_next_step(question *q);
 void draw_for_check_steps(question *q);
 void draw_for_rebuild(question *q);
+void draw_for_rebuild_log(question *q);
 void draw_for_packet(question *q);
 void draw_for_packet_of_sources(question *q);
 void draw_for_look(question *q);
@@ -61,10 +67,10 @@ void draw_for_read_blocks(question *q);
 void draw_for_write_blocks(question *q);
 
 /* Spoiling one place, at random or with a chosen value of the row of telling ones. The places are
- * eight numbers, each source's progress, six lengths, any byte of the table, of the input and of
+ * nine numbers, each source's progress, six lengths, any byte of the table, of the input and of
  * each of the two lists of steps. */
 enum {
-    PROGRESS_PLACE = 8,
+    PROGRESS_PLACE = 9,
     LENGTH_PLACE = PROGRESS_PLACE + WH_MAX_K,
     BYTE_PLACE = LENGTH_PLACE + LENT_BUFFERS,
     SPOILED_PLACES = BYTE_PLACE + 4,

@@ -54,6 +54,7 @@ static int meanings_have_the_limits(void)
            ends_with(wh_meaning(WH_LENGTH), WH_MAX_LENGTH) &&
            ends_with(wh_meaning(WH_TABLE), WH_MAX_SHIFT) &&
            ends_with(wh_meaning(WH_FAMILY), WH_FAMILIES) &&
+           ends_with(wh_meaning(WH_STRIPES), WH_MAX_STRIPES) &&
            ends_with(wh_meaning(WH_INPUT), WH_LONGEST) &&
            ends_with(wh_meaning(WH_CUT), WH_MAX_INFORMATION);
 }
@@ -67,10 +68,10 @@ static int says(uint64_t number, const char *words)
 static int meanings_say_what_to_look_at(void)
 {
     return says(WH_INPUT, "k * l") && says(WH_INPUT, "wh_survivors_length") &&
-           says(WH_OUTPUT, "m * k") && says(WH_OUTPUT, "k * l") &&
-           says(WH_OUTPUT, "wh_packet_length") && says(WH_OUTPUT, "wh_parities_length") &&
-           says(WH_PACKET, "1 to k + m") && says(WH_PACKET, "1 to k,") &&
-           says(WH_PACKET, "marks");
+           says(WH_INPUT, "stripes") && says(WH_OUTPUT, "stripes") && says(WH_OUTPUT, "m * k") &&
+           says(WH_OUTPUT, "k * l") && says(WH_OUTPUT, "wh_packet_length") &&
+           says(WH_OUTPUT, "wh_parities_length") && says(WH_PACKET, "1 to k + m") &&
+           says(WH_PACKET, "1 to k,") && says(WH_PACKET, "marks");
 }
 
 typedef struct {
@@ -125,6 +126,12 @@ static int null_is_no_bytes(void)
         {"rebuild's table", wh_rebuild(2, 2, 1, none, 4, 12, four, 4, out, 2).number, WH_TABLE},
         {"rebuild's packets", wh_rebuild(2, 2, 1, table, 4, 12, none, 4, out, 2).number, WH_INPUT},
         {"all sources", wh_rebuild(2, 2, 1, table, 4, 12, four, 4, none, 2).number, WH_OUTPUT},
+        {"the log's table", wh_rebuild_log(2, 2, 1, none, 4, 1, 12, four, 4, out, 2).number,
+         WH_TABLE},
+        {"the log's packets", wh_rebuild_log(2, 2, 1, table, 4, 1, 12, none, 4, out, 2).number,
+         WH_INPUT},
+        {"the log's sources", wh_rebuild_log(2, 2, 1, table, 4, 1, 12, four, 4, none, 2).number,
+         WH_OUTPUT},
         {"packet's table", wh_packet(2, 2, 1, none, 4, 12, four, 4, 1, out, 1), WH_TABLE},
         {"packet's packets", wh_packet(2, 2, 1, table, 4, 12, none, 4, 1, out, 1), WH_INPUT},
         {"packet's sources", wh_packet(2, 2, 1, table, 4, 3, none, 2, 3, out, 2), WH_INPUT},

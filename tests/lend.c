@@ -67,6 +67,13 @@ void lend_lists(lent *at, const uint8_t *parities, const uint8_t *sources, size_
     at->step_sources = place(STEP_SOURCES, sources, length, way);
 }
 
+void lend_log(lent *at, const uint8_t *packets, size_t packets_length, const uint8_t *output,
+              size_t output_length, lending way)
+{
+    at->input = place(INPUT, packets, packets_length, way);
+    at->output = place(OUTPUT, output, output_length, way);
+}
+
 static bool kept(const uint8_t *at, const bytes *old)
 {
     return old->length == 0 || memcmp(at, old->at, old->length) == 0;

@@ -29,6 +29,10 @@ lent lend(const question *q, lending way);
 void lend_lists(lent *at, const uint8_t *parities, const uint8_t *sources, size_t length,
                 lending way);
 
+/* The same for the packets and the output of a log. */
+void lend_log(lent *at, const uint8_t *packets, size_t packets_length, const uint8_t *output,
+              size_t output_length, lending way);
+
 /* Whether everything that was lent for reading still has the question's bytes. */
 bool inputs_kept(const question *q, const lent *at);
 

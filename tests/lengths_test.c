@@ -20,7 +20,8 @@ static void too_long(void)
 }
 
 /* Right when cut: a table of four bytes, two sources of one byte, no steps where nothing is
- * missing, a block of four, a packet of four in blocks of four. */
+ * missing, a log of two stripes with none missing, a block of four, a packet of four in blocks of
+ * four. */
 static void two_to_the_32_and_4(void)
 {
     static const uint8_t table[4] = {0, 1, 0, 2}, sources[2] = {0x80, 0xC0}, block[4] = {0};
@@ -34,6 +35,12 @@ static void two_to_the_32_and_4(void)
                   WH_STEPS_UNEQUAL);
     expect_number(wh_check_steps(2, 2, 1, table, 4, 3, block, 0, sources, more).number,
                   WH_STEPS_UNEQUAL);
+    expect_number(wh_rebuild_log(2, 2, 1, table, 4, more + 2, 3, block, 4, out, 4).number,
+                  WH_STRIPES);
+    expect_number(wh_rebuild_log(2, 2, 1, table, 4, 2, 3, block, more + 4, out, 4).number,
+                  WH_INPUT);
+    expect_number(wh_rebuild_log(2, 2, 1, table, 4, 2, 3, block, 4, out, more + 4).number,
+                  WH_OUTPUT);
     expect_number(wh_block(block, more + 4, out, 4).number, WH_BLOCK_LENGTH);
     expect_number(wh_read_blocks(block, more + 4, out, 4).number, WH_BLOCK_END);
     expect_number(wh_write_blocks(table, more + 4, 4, out, 8).number, WH_INPUT);

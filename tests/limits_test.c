@@ -1,5 +1,6 @@
 /* The macros of the limits: what the library takes and refuses. */
 #include "calls_chain.h"
+#include "calls_log.h"
 #include "calls_table.h"
 #include "check.h"
 
@@ -29,6 +30,18 @@ static void one_more_family_is_refused(void)
     expect_number(compare(&family_table_call, &q).number, WH_DONE);
     q.family = WH_FAMILIES + 1;
     expect_number(compare(&family_table_call, &q).number, WH_FAMILY);
+}
+
+static void one_more_stripe_is_refused(void)
+{
+    question q = house_question(2, 2, 1);
+    keep_every_source(&q);
+    q.stripes = WH_MAX_STRIPES;
+    fit_log(&q);
+    expect_number(compare(&rebuild_log_call, &q).number, WH_DONE);
+    q.stripes = WH_MAX_STRIPES + 1;
+    fit_log(&q);
+    expect_number(compare(&rebuild_log_call, &q).number, WH_STRIPES);
 }
 
 static void longest_packet_is_reached(void)
@@ -71,6 +84,7 @@ int main(void)
     static const named_test tests[] = {
         {"limits_one_more_is_refused", one_more_is_refused},
         {"limits_one_more_family_is_refused", one_more_family_is_refused},
+        {"limits_one_more_stripe_is_refused", one_more_stripe_is_refused},
         {"limits_longest_packet_is_reached", longest_packet_is_reached},
         {"limits_longest_parities_are_reached", longest_parities_are_reached},
         {"limits_most_blocks_are_reached", most_blocks_are_reached},

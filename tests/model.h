@@ -2,7 +2,7 @@
  * the Hankel family straight from its paper. Nothing of the library is used but the names of the
  * limits, of the families and of the numbers, which pinned_test holds to the rules. Sources,
  * parities and packets are numbered from 1, as in the rules. A model call writes its output only
- * when it is done. */
+ * when it is done, but for the good stripes of a log that has a bad one. */
 #ifndef MODEL_H
 #define MODEL_H
 
@@ -22,6 +22,7 @@ model_call model_walk;             /* results: count, whole, progress */
 model_call model_next_step;        /* results: parity, source, progress */
 model_call model_check_steps;      /* results: place */
 model_call model_rebuild;          /* results: count */
+model_call model_rebuild_log;      /* results: good, count */
 model_call model_packet;           /* results: none */
 model_call model_look;             /* results: buffer, start, length */
 model_call model_block;            /* results: length, sequence, more */
@@ -56,6 +57,9 @@ uint64_t packet_place(const question *q, uint64_t packet); /* among the packets 
 uint8_t bit_of(const uint8_t *bytes_at, uint64_t p);
 void encode_packet(const question *q, const uint8_t *sources, uint64_t packet, uint8_t *out);
 void encode_survivors(const question *q, const uint8_t *sources, uint8_t *out);
+
+/* Stripe t of a log, from 0, as a question for rebuild. */
+question stripe_question(const question *q, uint64_t t);
 
 /* A walk: steps made and progress, that of source b at progress[b - 1]. */
 typedef struct {

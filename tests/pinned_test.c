@@ -28,6 +28,7 @@ static void limits(void)
         {"WH_MAX_SHIFT", WH_MAX_SHIFT, 64},
         {"WH_LONGEST", WH_LONGEST, 64},
         {"WH_FAMILIES", WH_FAMILIES, 3},
+        {"WH_MAX_STRIPES", WH_MAX_STRIPES, 16},
         {"WH_MAX_INFORMATION", WH_MAX_INFORMATION, 254},
         {"WH_BLOCKS_LONGEST", WH_BLOCKS_LONGEST, 320},
     };
@@ -72,6 +73,7 @@ static void numbers(void)
         {"WH_STEPS_UNEQUAL", WH_STEPS_UNEQUAL, 22},
         {"WH_STEP_NOT_BARE", WH_STEP_NOT_BARE, 23},
         {"WH_STEPS_EARLY", WH_STEPS_EARLY, 24},
+        {"WH_STRIPES", WH_STRIPES, 25},
         {"WH_CUT", WH_CUT, 36},
     };
     expect_pinned(names, sizeof names / sizeof names[0]);

@@ -8,8 +8,8 @@
 #include <stddef.h>
 #include <stdint.h>
 
-/* More bytes than any call takes, but for the longest lists of steps, which have a test of their
- * own; and the results of the walk, which gives most. */
+/* More bytes than any call takes, but for the longest lists of steps and long logs, which have
+ * tests of their own; and the results of the walk, which gives most. */
 enum { BYTES_MOST = WH_MAX_K * WH_LONGEST + 128, RESULTS_MOST = 2 + WH_MAX_K };
 
 /* The bytes of a block beside its information: NAD, PCB, LEN and LRC. */
@@ -23,6 +23,7 @@ typedef struct {
 typedef struct {
     uint64_t k, m, l;
     uint64_t family;
+    uint64_t stripes;
     uint64_t marks;
     uint64_t packet;
     uint64_t source;

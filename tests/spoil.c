@@ -4,7 +4,7 @@
 
 static uint64_t *number_at(question *q, size_t place)
 {
-    uint64_t *numbers[PROGRESS_PLACE] = {&q->k,     &q->m,      &q->l,      &q->family,
+    uint64_t *numbers[PROGRESS_PLACE] = {&q->k,     &q->m,      &q->l,      &q->family, &q->stripes,
                                          &q->marks, &q->packet, &q->source, &q->size};
     if (place < PROGRESS_PLACE) {
         return numbers[place];

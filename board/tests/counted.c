@@ -1,10 +1,10 @@
-/* Counts the instructions of encode all, of the last parity alone and of rebuild. QEMU with
- * `-icount shift=0` lets time go on by the same amount with each instruction; a loop of known
- * length says how many a tick has. */
+/* Counts the instructions of encode all, of the last parity alone, of rebuild, and of a log of
+ * four stripes beside four rebuilds. QEMU with `-icount shift=0` lets time go on by the same
+ * amount with each instruction; a loop of known length says how many a tick has. */
 #include "semihosting.h"
 #include "windhawker.h"
 
-enum { LOOPS = 500000, REPEATS = 8 };
+enum { LOOPS = 500000, REPEATS = 8, STRIPES = 4 };
 
 #ifdef __riscv
 enum { TICKS_MOST = -1 };
@@ -140,6 +140,51 @@ static void count_rebuild(const shape *s, size_t cells)
     say_count(rebuilt.number == WH_DONE ? "rebuild" : "refused", s, count);
 }
 
+/* Writes the packets at hand of all stripes; gives the bytes of one, or 0 where a call refuses. */
+static size_t write_log(const shape *s, size_t cells, uint64_t marks)
+{
+    uint64_t number = WH_DONE, every_source = ((uint64_t)1 << s->k) - 1;
+    size_t stripe = (size_t)(s->k * s->l), used = 0;
+    for (size_t t = 0; t < STRIPES; t++) {
+        for (uint64_t packet = 1; packet <= s->k + s->m; packet++) {
+            if (marks >> (packet - 1) & 1) {
+                wh_measured one = wh_packet_length(s->k, s->m, s->l, table, cells, packet);
+                number |= one.number;
+                number |=
+                    wh_packet(s->k, s->m, s->l, table, cells, every_source, sources + t * stripe,
+                              stripe, packet, packets + used, (size_t)one.length);
+                used += (size_t)one.length;
+            }
+        }
+    }
+    return number == WH_DONE ? used / STRIPES : 0;
+}
+
+/* A log in one call, and with one rebuild for each stripe, house table, these packets at hand. */
+static void count_log(const shape *s, uint64_t marks)
+{
+    size_t cells = (size_t)(s->k * s->m), stripe = (size_t)(s->k * s->l);
+    uint64_t number = wh_family_table(s->k, s->m, WH_HOUSE, table, cells);
+    size_t each = write_log(s, cells, marks);
+    uint32_t began = ticks();
+    for (int i = 0; i < REPEATS; i++) {
+        number |= wh_rebuild_log(s->k, s->m, s->l, table, cells, STRIPES, marks, packets,
+                                 STRIPES * each, rebuilt_sources, STRIPES * stripe)
+                      .number;
+    }
+    uint64_t count = instructions_since(began) / REPEATS;
+    say_count(number == WH_DONE ? "rebuild_log" : "refused", s, count);
+    began = ticks();
+    for (size_t i = 0; i < REPEATS * STRIPES; i++) {
+        size_t t = i % STRIPES;
+        number |= wh_rebuild(s->k, s->m, s->l, table, cells, marks, packets + t * each, each,
+                             rebuilt_sources + t * stripe, stripe)
+                      .number;
+    }
+    count = instructions_since(began) / REPEATS;
+    say_count(number == WH_DONE ? "rebuilds" : "refused", s, count);
+}
+
 int main(void)
 {
     static const shape shapes[] = {{2, 2, 8}, {4, 2, 32}, {WH_MAX_K, WH_MAX_M, WH_MAX_LENGTH}};
@@ -163,5 +208,8 @@ int main(void)
         count_last_parity(s, cells);
         count_rebuild(s, cells);
     }
+    static const shape two_missing = {4, 2, 8}, three_missing = {4, 4, 8};
+    count_log(&two_missing, 0x3C);   /* sources 1 and 2: solved for at once */
+    count_log(&three_missing, 0xB4); /* sources 1, 2 and 4, by parities 1, 2 and 4: in steps */
     return 0;
 }

@@ -19,9 +19,10 @@ static uint64_t deepest[CALLS];
 static void write_deepest(void)
 {
     static const char *const names[CALLS] = {
-        "family_table", "judge", "packet_length", "parities_length", "survivors_length",
-        "encode_all",   "walk",  "next_step",     "check_steps",     "rebuild",
-        "packet",       "look",  "block",         "read_blocks",     "write_blocks"};
+        "family_table", "judge",  "packet_length", "parities_length", "survivors_length",
+        "encode_all",   "walk",   "next_step",     "check_steps",     "rebuild",
+        "rebuild_log",  "packet", "look",          "block",           "read_blocks",
+        "write_blocks"};
     FILE *file = fopen("deepest", "a");
     for (int i = 0; file != NULL && i < CALLS; i++) {
         if (deepest[i] > 0) {

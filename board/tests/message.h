@@ -26,6 +26,7 @@ typedef enum {
     NEXT_STEP,
     CHECK_STEPS,
     REBUILD,
+    REBUILD_LOG,
     PACKET,
     LOOK,
     BLOCK,
@@ -35,7 +36,7 @@ typedef enum {
 } call_number;
 
 typedef struct {
-    uint64_t call, k, m, l, family, marks, packet, source, size;
+    uint64_t call, k, m, l, family, stripes, marks, packet, source, size;
     uint64_t progress[WH_MAX_K];
     uint64_t lengths[BUFFERS];
 } asked_message;

@@ -119,6 +119,22 @@ uint64_t whx_rebuild(uint64_t k, uint64_t m, uint64_t l, const uint8_t *table, u
     return run_for_one(&e, count);
 }
 
+uint64_t whx_rebuild_log(uint64_t k, uint64_t m, uint64_t l, const uint8_t *table,
+                         uint64_t table_len, uint64_t stripes, uint64_t marks,
+                         const uint8_t *packets, uint64_t packets_len, uint8_t *out,
+                         uint64_t out_len, uint64_t *good, uint64_t *count)
+{
+    errand e = shaped_errand(REBUILD_LOG, k, m, l, table, table_len);
+    e.words.stripes = stripes;
+    e.words.marks = marks;
+    lend_input(&e, INPUT, packets, packets_len);
+    lend_output(&e, out, out_len);
+    answered_message answered = run(&e);
+    *good = answered.results[0];
+    *count = answered.results[1];
+    return answered.number;
+}
+
 uint64_t whx_packet(uint64_t k, uint64_t m, uint64_t l, const uint8_t *table, uint64_t table_len,
                     uint64_t marks, const uint8_t *packets, uint64_t packets_len, uint64_t packet,
                     uint8_t *out, uint64_t out_len)

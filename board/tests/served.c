@@ -5,7 +5,8 @@
 
 #include <stdbool.h>
 
-enum { PAINTED = 3072, OWN_FRAME = 64, PAINT = 0x5A };
+/* Below the stack so much is painted: more than a call takes, for rebuild log as for the others. */
+enum { PAINTED = 3072, PAINTED_FOR_LOG = 11264, OWN_FRAME = 64, PAINT = 0x5A };
 
 static asked_message asked;
 static answered_message answered;
@@ -93,6 +94,14 @@ static uint64_t rebuild(void)
     return rebuilt.number;
 }
 
+static uint64_t rebuild_log(void)
+{
+    wh_log_rebuilt rebuilt = wh_rebuild_log(SHAPE, asked.stripes, asked.marks, buffers[INPUT],
+                                            lengths[INPUT], buffers[OUTPUT], lengths[OUTPUT]);
+    set_results(rebuilt.good, rebuilt.count, NULL, 0);
+    return rebuilt.number;
+}
+
 static uint64_t look(void)
 {
     wh_looked looked = wh_look(SHAPE, asked.marks, asked.source, buffers[INPUT], lengths[INPUT],
@@ -149,6 +158,8 @@ __attribute__((noinline)) static uint64_t ask(void)
         return check_steps();
     case REBUILD:
         return rebuild();
+    case REBUILD_LOG:
+        return rebuild_log();
     case PACKET:
         return wh_packet(SHAPE, asked.marks, buffers[INPUT], lengths[INPUT], asked.packet,
                          buffers[OUTPUT], lengths[OUTPUT]);
@@ -167,10 +178,10 @@ __attribute__((noinline)) static uint64_t ask(void)
 }
 
 /* Paints the memory below the stack, but for its own frame, and gives where the stack ends. */
-__attribute__((noinline)) static volatile uint8_t *paint(void)
+__attribute__((noinline)) static volatile uint8_t *paint(int painted)
 {
     volatile uint8_t *end = __builtin_frame_address(0);
-    for (int i = OWN_FRAME; i < PAINTED; i++) {
+    for (int i = OWN_FRAME; i < painted; i++) {
         end[-i] = PAINT;
     }
     return end;
@@ -179,9 +190,10 @@ __attribute__((noinline)) static volatile uint8_t *paint(void)
 /* Asks, and sees how far down the paint is gone. */
 static void ask_on_paint(void)
 {
-    volatile uint8_t *end = paint();
+    int painted = asked.call == REBUILD_LOG ? PAINTED_FOR_LOG : PAINTED;
+    volatile uint8_t *end = paint(painted);
     answered.number = ask();
-    int deep = PAINTED - 1;
+    int deep = painted - 1;
     while (deep > OWN_FRAME && end[-deep] == PAINT) {
         deep--;
     }

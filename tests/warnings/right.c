@@ -20,6 +20,7 @@ uint64_t ask_all(void)
     number |= wh_next_step(2, 2, 1, table, 4, 12, progress).number;
     number |= wh_check_steps(2, 2, 1, table, 4, 12, input, 4, rebuilt, 4).number;
     number |= wh_rebuild(2, 2, 1, table, 4, 12, input, 4, output, 4).number;
+    number |= wh_rebuild_log(2, 2, 1, table, 4, 1, 12, input, 4, output, 4).number;
     number |= wh_packet(2, 2, 1, table, 4, 12, input, 4, 3, output, 4);
     number |= wh_look(2, 2, 1, table, 4, 12, 1, input, 4, rebuilt, 4).number;
     number |= wh_block(input, 4, output, 4).number;
@@ -38,5 +39,6 @@ uint64_t lend_nothing(uint8_t *maybe_null, uint64_t length)
     none |= wh_judge(2, 2, maybe_null, length).number;
     none |= wh_check_steps(2, 2, 1, maybe_null, length, 3, NULL, 0, NULL, 0).number;
     none |= wh_rebuild(2, 2, 1, NULL, 0, 12, maybe_null, length, NULL, 0).number;
+    none |= wh_rebuild_log(2, 2, 1, NULL, 0, 1, 12, maybe_null, length, NULL, 0).number;
     return none;
 }

@@ -3,14 +3,18 @@ pub mod solving;
 pub mod steps;
 
 use crate::steps::DecodeAnswer;
+use plan::PARITIES;
+use search::COLUMNS;
 use table::Shape;
 use table::Table;
 ghost use mathlib.Core.Path.{_≡_};
 ghost use mathlib.Core.Bool.{true};
 ghost use lib.ListN.{length};
-ghost use Prim.Native.Nat.{ℕ};
+ghost use Prim.Native.Nat.{ℕ, _*_};
 ghost use Rattle.rows.specs.Rows.{rowIn};
+ghost use Rattle.table.specs.Desk.{sourceBits};
 ghost use Rattle.table.specs.Table.{Ready, Reaches, Survivors, deskOf};
+ghost use Rattle.plan.specs.Plan.{Planned};
 ghost use Rattle.survivors.specs.Remainders.{Roomy, sourcesIn, InBytes, NoRest};
 ghost use Rattle.decode.specs.Data.{Blank, Uncovered, ReadBack};
 
@@ -71,4 +75,33 @@ pub fn read_back(
         whole,
         consistent,
     }
+}
+
+// The same by a plan that was found for the missing sources, which solves for them; tells whether any sources encode to the packets.
+pub fn solve_back(
+    s: Shape,
+    shifts: &[u8; Table::CELLS],
+    reaches: &[u8; Table::PARITIES],
+    way: u8,
+    held: &[u8; PARITIES],
+    columns: &[u8; COLUMNS],
+    rises: &[u8; Table::SOURCES],
+    missing: u8,
+    packets: &[u8],
+    rows: &mut [u64],
+) -> bool
+    requires { ⌜ Ready s (now shifts) ⌝ }
+    requires { ⌜ Reaches s (now shifts) (now reaches) ⌝ }
+    requires { ⌜ Planned (deskOf s (now shifts)) way missing (now held) (now columns) (now rises) ⌝ }
+    requires { ⌜ Survivors s (now shifts) (now packets) ⌝ }
+    requires { ⌜ Roomy (now rows) ⌝ }
+    requires { ⌜ ((i p : ℕ) → rowIn (now rows) i p ≡ 0) ⌝ }
+    ensures { λ r. ⌜ ReadBack (deskOf s (now (shifts .entry))) (now (packets .entry)) (missing * sourceBits (s .length)) true r (sourcesIn (deskOf s (now (shifts .entry))) (now (rows .exit))) ⌝ }
+{
+    survivors::place_packets(s, shifts, reaches, packets, rows);
+    survivors::add_to_rests(s, shifts, s.marks, s.marks, rows);
+    crate::solving::solve_missing(s, shifts, way, held, columns, rises, missing, rows);
+    survivors::add_to_rests(s, shifts, s.marks, u64::MAX - s.marks, rows);
+    bits::known(packets);
+    rows::bytes::clear_rows(rows, s.k, s.m)
 }

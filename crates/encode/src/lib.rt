@@ -2,8 +2,12 @@
 use table::Shape;
 use table::Table;
 ghost use mathlib.Core.Path.{_≡_};
-ghost use Prim.Native.Nat.{_+_};
-ghost use Rattle.table.specs.Table.{Within, deskOf};
+ghost use Prim.Native.Nat.{_+_, _<_};
+ghost use lib.ListN.{length};
+ghost use Rattle.bits.specs.Bits.{Tells};
+ghost use Rattle.table.specs.Desk.{sourcesBytes, packetBytes};
+ghost use Rattle.table.specs.Table.{Within, Reaches, Survivors, deskOf};
+ghost use Rattle.code.specs.Code.{packetOf, survivorsOf};
 ghost use Rattle.encode.specs.Stages.{AllGiven, LengthGiven};
 ghost use Rattle.encode.specs.Promise.{EncodedAll, PacketMeasured, ParitiesMeasured, SurvivorsMeasured};
 
@@ -119,4 +123,52 @@ pub fn survivors_length(k: u64, m: u64, l: u64, table: &[u8], marks: u64) -> Len
         number: 0,
         length: bytes as u64,
     }
+}
+
+// Whether packet i, from 0, of the sources is this one, which is as long as it is.
+fn same_packet(
+    s: Shape,
+    shifts: &[u8; Table::CELLS],
+    i: usize,
+    sources: &[u8],
+    packet: &[u8],
+) -> bool
+    requires { ⌜ Within s (now shifts) ⌝ }
+    requires { ⌜ i < s .k + s .m ⌝ }
+    requires { ⌜ length (now sources) ≡ sourcesBytes (deskOf s (now shifts)) ⌝ }
+    requires { ⌜ length (now packet) ≡ packetBytes (deskOf s (now shifts)) i ⌝ }
+    ensures { λ r. ⌜ Tells r (now (packet .entry) ≡ packetOf (deskOf s (now (shifts .entry))) (now (sources .entry)) i) ⌝ }
+{
+    let n = packet.len();
+    let mut made = [0u8; Table::LONGEST];
+    code::encode_packet(s, shifts, i, sources, &mut made[..n]);
+    bits::same(packet, &made[..n])
+}
+
+// Whether the packets at hand are those of the sources; each is made alone.
+pub fn same_packets(
+    s: Shape,
+    shifts: &[u8; Table::CELLS],
+    reaches: &[u8; Table::PARITIES],
+    sources: &[u8],
+    packets: &[u8],
+) -> bool
+    requires { ⌜ Within s (now shifts) ⌝ }
+    requires { ⌜ Reaches s (now shifts) (now reaches) ⌝ }
+    requires { ⌜ length (now sources) ≡ sourcesBytes (deskOf s (now shifts)) ⌝ }
+    requires { ⌜ Survivors s (now shifts) (now packets) ⌝ }
+    ensures { λ r. ⌜ Tells r (now (packets .entry) ≡ survivorsOf (deskOf s (now (shifts .entry))) (now (sources .entry))) ⌝ }
+{
+    let n = s.k + s.m;
+    let mut from = 0;
+    let mut i = table::packets::next_present(s.marks, 0, n);
+    while i < n {
+        let end = from + table::packets::bytes_of(s, shifts, reaches, i);
+        if !same_packet(s, shifts, i, sources, &packets[from..end]) {
+            return false;
+        }
+        from = end;
+        i = table::packets::next_present(s.marks, i + 1, n);
+    }
+    true
 }

@@ -272,6 +272,29 @@ fn rebuilt_three(table: &[u8], marks: u64, packets: &[u8]) {
     rebuilt(table, 3, marks, packets, &mut sources);
 }
 
+// What a log of two sources a stripe gives from both parities, into an output of nines.
+fn read_log(table: &[u8], stripes: u64, packets: &[u8], out: &mut [u8]) {
+    let a = logbook::rebuild_log(2, 2, 1, table, stripes, 12, packets, out);
+    say(b"log of ");
+    say_number(stripes);
+    say(b" stripes, marks 12, packets ");
+    say_bytes(packets);
+    say(b": number ");
+    say_number(a.number);
+    say(b", good ");
+    say_number(a.good);
+    say(b", count ");
+    say_number(a.count);
+    say(b", output ");
+    say_bytes(out);
+    say(b"\n");
+}
+
+fn read_log_of_three(packets: &[u8]) {
+    let mut out = [9u8; 6];
+    read_log(&HOUSE, 3, packets, &mut out);
+}
+
 // The wanted packet, from the packets at hand, into so much room.
 fn made(marks: u64, packets: &[u8], wanted: u64, room: &mut [u8]) {
     let number = packet::packet(2, 2, 1, &HOUSE, marks, packets, wanted, room);
@@ -525,6 +548,19 @@ fn numbers() {
     numbered(b"L 57: ", 57, &HOUSE, 12);
 }
 
+fn logs() {
+    read_log_of_three(b"\x03\x00\x05\x00\x03\x00\x05\x01\x03\x00\x05\x04");
+    read_log_of_three(b"\x03\x00\x05\x00\x03\x00\x05\x00\x03\x00\x05\x00");
+    let mut out = [9u8; 4];
+    say(b"table (0,7),(0,7): ");
+    read_log(
+        b"\x00\x07\x00\x07",
+        2,
+        b"\x03\x00\x05\x00\x03\x00\x05\x00",
+        &mut out,
+    );
+}
+
 fn blocks() {
     taken(b"\x00\x00\x02\xAA\x55\xFD");
     taken(b"\x00\x40\x02\xAA\x55\xBD");
@@ -574,6 +610,7 @@ fn main() {
     own_lengths();
     step_lists();
     any_packet();
+    logs();
     other_tables();
     numbers();
     blocks();

@@ -27,6 +27,7 @@ fn print_limits() {
     print_macro(b"MAX_SHIFT", Table::MAX_SHIFT as u64);
     print_macro(b"LONGEST", Table::LONGEST as u64);
     print_macro(b"FAMILIES", Table::FAMILIES);
+    print_macro(b"MAX_STRIPES", Table::MAX_STRIPES);
     print_macro(b"MAX_INFORMATION", Blocks::MAX_INFORMATION);
     print_macro(b"BLOCKS_LONGEST", Blocks::LONGEST as u64);
 }
@@ -65,6 +66,7 @@ fn print_numbers() {
     print_macro(b"STEPS_UNEQUAL", Number::STEPS_UNEQUAL);
     print_macro(b"STEP_NOT_BARE", Number::STEP_NOT_BARE);
     print_macro(b"STEPS_EARLY", Number::STEPS_EARLY);
+    print_macro(b"STRIPES", Number::STRIPES);
     print_macro(b"CUT", Number::CUT);
 }
 

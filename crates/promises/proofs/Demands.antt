@@ -5,10 +5,11 @@ use mathlib.Core.List.{List, _++_, []}
 use mathlib.Core.Bool.{Bool, true}
 use Prim.Native.Nat.{ℕ, _+_, _-_, _*_, _%_, _≤_, _<_, zero, suc}
 use native.Mathlib.Omega.{arith}
+use native.Mathlib.Nat.{zero-mul}
 use native.Mathlib.Decide.{decLt}
 use lib.Dec.{leb}
 use borrow.Author.Tests.{le-leb, lt-ltb, le-ltb}
-use lib.ListN.{length}
+use lib.ListN.{length, drop}
 use Rattle.bits.specs.Sums.{at, pick}
 use Rattle.bits.specs.Bits.{Bytes, bitAt, joined}
 use Rattle.bits.proofs.ByteLaws.{part-joined, joined-length}
@@ -41,6 +42,7 @@ use Rattle.rebuild.specs.Stages.{decodeChecks}
 use Rattle.rebuild.specs.Promise.{rebuildChecks, Rebuilt}
 use Rattle.survivors.proofs.CameLaws.{encodes-bits, encoded-not-stray}
 use Rattle.rebuild.proofs.OneAnswer.{one-source, rebuilt-shaped}
+use Rattle.logbook.specs.Promise.{logChecks}
 use Rattle.packet.specs.Promise.{wantedChecks}
 use Rattle.packet.proofs.CheckParts.{decoding-decides}
 use Rattle.look.specs.Promise.{lookChecks}
@@ -72,6 +74,7 @@ calls-listed = record {
   step = λ k m l table marks progress number parity source after x. (x .numbered, refl, listed-by (stepChecks k m l table marks progress) refl);
   check-steps = λ k m l table marks parities sources number place x. (x .numbered, refl, listed-by (stepListChecks k m l table marks parities sources) refl);
   rebuild = λ k m l table marks packets before number count after x. (x .numbered, refl, listed-by (rebuildChecks k m l table marks packets before) refl);
+  rebuild-log = λ k m l table stripes marks packets before number good count after x. (x .numbered, refl, listed-by (logChecks k m l table stripes marks packets before) refl);
   packet = λ k m l table marks packets wanted before number after x. (x .numbered, refl, listed-by (wantedChecks k m l table marks packets wanted before) refl);
   look = λ k m l table marks source survivors rebuilt number buffer start bytes x. (x .numbered, refl, listed-by (lookChecks k m l table marks source survivors rebuilt) refl);
   block = λ bytes before number count sequence more after x. (x .numbered, refl, listed-by (blockChecks bytes (length before)) refl);
@@ -99,6 +102,18 @@ encode-all-keeps k m l table sources before number after x = x .refused
 
 pub rebuild-keeps : Demands.RebuildKeeps
 rebuild-keeps k m l table marks packets before number count after x refuses = x .refused refuses .0
+
+pub log-keeps : Demands.LogKeeps
+log-keeps k m l table stripes marks packets before number good count after x refuses = (whole, λ b. (x .written .kept, x .written .size))
+  where
+    w : ℕ
+    w = sourcesBytes (desk k m l table marks)
+
+    whole : ((number ≡ 9) ⊎ (number ≡ 10) → ⊥) → (after ≡ before) × (good ≡ 0)
+    whole other =
+        let none = x .told .none refuses other in
+        let front : good * w ≡ 0 = ap (λ g. g * w) none ∙ zero-mul w in
+        (subst (λ i. drop i after ≡ drop i before) front (x .written .kept), none)
 
 pub packet-keeps : Demands.PacketKeeps
 packet-keeps k m l table marks packets wanted before number after x = x .refused
@@ -238,7 +253,7 @@ module _ (k m l : ℕ) (table : List ℕ) (marks : ℕ) where
     front = shapeAndLengths k m l table marks packets before
 
     -- they accept an accepted shape with buffers of their length
-    front-accepted : Checked (markedChecks k m l table marks) 0 → length packets ≡ survivorsBytes D → length before ≡ sourcesBytes D → Checked front 0
+    pub front-accepted : Checked (markedChecks k m l table marks) 0 → length packets ≡ survivorsBytes D → length before ≡ sourcesBytes D → Checked front 0
     front-accepted c long room =
         let input = inputChecks (survivorsBytes D) packets in
         let output = outputChecks (sourcesBytes D) before in
@@ -246,7 +261,7 @@ module _ (k m l : ℕ) (table : List ℕ) (marks : ℕ) where
         goes (markedChecks k m l table marks) (input ++ output) 0 (numbered-by (markedChecks k m l table marks) refl) c lengths
 
     -- then 8, 9 and 10 decide
-    decoded : Checked front 0 → (n : ℕ) → Checked (rebuildChecks k m l table marks packets before) n → Checked (decodeChecks D packets) n
+    pub decoded : Checked front 0 → (n : ℕ) → Checked (rebuildChecks k m l table marks packets before) n → Checked (decodeChecks D packets) n
     decoded c n x = rest-decides front (decodeChecks D packets) n (numbered-by front refl) c x
 
     numbered : Checked front 0 → (n : ℕ) → Checked (decodeChecks D packets) n → Checked (rebuildChecks k m l table marks packets before) n
@@ -274,7 +289,7 @@ module _ (k m l : ℕ) (table : List ℕ) (marks : ℕ) (packets sources : List 
   encoded-long = ap length (encodes .same) ∙ joined-length (mark marks) (packetOf H sources) (packetBytes H) (packet-size H sources (encodes .size)) (k + m)
 
   -- and where some order finishes none of 8, 9 and 10 is given
-  encoded-decodes : (((n : ℕ) → Finishes H n → ⊥) → ⊥) → Checked (decodeChecks H packets) 0
+  pub encoded-decodes : (((n : ℕ) → Finishes H n → ⊥) → ⊥) → Checked (decodeChecks H packets) 0
   encoded-decodes finishes = inr (finishes, inr (encoded-not-stray H packets sources (desk-short k m l table marks sources) encodes, inr ((λ n. n sources encodes), refl)))
 
 -- where differences grow, some order finishes

@@ -25,8 +25,9 @@ use Rattle.survivors.specs.Packets.{cameParity}
 use Rattle.card.proofs.Examples.{two-bytes-taken, two-bytes-next-taken, no-bytes-taken, first-of-two-taken}
 use Rattle.chain.proofs.Examples.{run-read, packet-written, byte-by-byte-written, empty-written}
 use Rattle.chain.proofs.Examples.{first-alone-refused, second-first-refused, byte-behind-refused, empty-refused, byte-after-more-refused}
-use Rattle.promises.specs.Examples.{Example, family, largest, judge, packet-length, parities-length, encode, walk, check-steps, rebuild, make, block, read, write}
+use Rattle.promises.specs.Examples.{Example, family, largest, judge, packet-length, parities-length, encode, walk, check-steps, rebuild, rebuild-log, make, block, read, write}
 use Rattle.promises.specs.Examples.{house, Met, Name, example, examples, AllMet, ExamplesMet}
+use Rattle.promises.proofs.LogAnswers.{LogLent, LogOutcome, reads-all, stops-at, log-outcome-meets}
 use Rattle.promises.proofs.PacketAnswers.{PacketOutcome, none-such, refuses, makes, packet-outcome-meets}
 use Rattle.promises.proofs.RebuildAnswers.{bytesB, tidyB, Outcome, stalls, strays, differs, reads, outcome-meets}
 
@@ -54,6 +55,8 @@ Computed (rebuild k m l table marks packets before number count after) =
     × (length packets ≡ survivorsBytes D)
     × (length before ≡ sourcesBytes D)
     × Outcome D packets before number count after
+Computed (rebuild-log k m l table stripes marks packets before number good count after) =
+    LogLent k m l table stripes marks packets before × LogOutcome k m l table stripes marks packets before number good count after
 Computed (make k m l table marks packets wanted before number after) = PacketOutcome k m l table marks packets wanted before number after
 Computed (block bytes before count sequence more after) = Met (block bytes before count sequence more after)
 Computed (read run before number count after) = Met (read run before number count after)
@@ -105,6 +108,7 @@ met (check-steps k m l table marks parities sources number place) c =
     subst (λ (r : ℕ × ℕ). StepsChecked k m l table marks parities sources (r .0) (r .1)) (c .1) (checked-meets k m l table marks parities sources accepted)
 met (rebuild k m l table marks packets before number count after) c =
     outcome-meets k m l table marks packets before (record { taken = c .0; input = c .1; output = c .2 }) (c .3)
+met (rebuild-log k m l table stripes marks packets before number good count after) c = log-outcome-meets k m l table stripes marks packets before (c .0) (c .1)
 met (make k m l table marks packets wanted before number after) c = packet-outcome-meets k m l table marks packets wanted before c
 met (block bytes before count sequence more after) c = c
 met (read run before number count after) c = c
@@ -147,6 +151,24 @@ from-no-sources : Computed (example Name.rebuild-no-sources)
 unfolding accepting walking coding reading
 from-no-sources = (refl, refl, refl, differs refl refl 1 8 (omega arith) refl refl)
 
+from-both-parities : Computed (example Name.rebuild-both-parities)
+unfolding accepting walking coding reading
+from-both-parities = (refl, refl, refl, reads refl refl refl refl)
+
+from-seven : Computed (example Name.rebuild-seven)
+unfolding accepting walking coding reading
+from-seven = (refl, refl, refl, stalls refl)
+
+-- what rebuild gives of the stripes of a log
+good-stripe : Met (example Name.rebuild-both-parities)
+good-stripe = met (example Name.rebuild-both-parities) from-both-parities
+
+foreign-stripe : Met (example Name.rebuild-no-sources)
+foreign-stripe = met (example Name.rebuild-no-sources) from-no-sources
+
+stalled-stripe : Met (example Name.rebuild-seven)
+stalled-stripe = met (example Name.rebuild-seven) from-seven
+
 computed : (n : Name) → Computed (example n)
 unfolding accepting walking following coding reading
 computed Name.family-house = (refl, refl, refl, refl)
@@ -183,16 +205,19 @@ computed Name.steps-none-missing = (refl, refl)
 computed Name.steps-none-written = (refl, refl)
 computed Name.steps-nought = (refl, refl)
 computed Name.steps-unequal = (refl, refl)
-computed Name.rebuild-both-parities = (refl, refl, refl, reads refl refl refl refl)
+computed Name.rebuild-both-parities = from-both-parities
 computed Name.rebuild-one-parity = (refl, refl, refl, reads refl refl refl refl)
 computed Name.rebuild-no-parity = (refl, refl, refl, reads refl refl refl refl)
 computed Name.rebuild-high-bits = from-high-bits
 computed Name.rebuild-one-above = (refl, refl, refl, strays refl (3, omega arith, refl, (10, omega arith, refl)))
 computed Name.rebuild-past-the-row = (refl, refl, refl, strays refl (2, omega arith, refl, (9, omega arith, refl)))
 computed Name.rebuild-no-sources = from-no-sources
-computed Name.rebuild-seven = (refl, refl, refl, stalls refl)
+computed Name.rebuild-seven = from-seven
 computed Name.rebuild-eight = (refl, refl, refl, reads refl refl refl refl)
 computed Name.rebuild-stuck = (refl, refl, refl, stalls refl)
+computed Name.log-bad-stripe = (record { taken = refl; few = refl; input = refl; output = refl }, stops-at 10 1 16 (omega arith) (omega arith) (tt, good-stripe) foreign-stripe (refl, refl))
+computed Name.log-three-alike = (record { taken = refl; few = refl; input = refl; output = refl }, reads-all (((tt, good-stripe), good-stripe), good-stripe) (refl, refl))
+computed Name.log-seven = (record { taken = refl; few = refl; input = refl; output = refl }, stops-at 8 0 0 (omega arith) (omega arith) tt stalled-stripe (refl, refl))
 computed Name.packet-parity-of-sources = makes (met rebuilt-sources from-sources) (omega arith) (omega arith) refl refl
 computed Name.packet-source-of-sources = makes (met rebuilt-sources from-sources) (omega arith) (omega arith) refl refl
 computed Name.packet-lost = makes (met (example Name.rebuild-high-bits) from-high-bits) (omega arith) (omega arith) refl refl

@@ -3,7 +3,9 @@ pub mod AnyPacket
 pub mod Demands
 pub mod Stepping
 pub mod StepLists
+pub mod Logs
 pub mod RebuildAnswers
+pub mod LogAnswers
 pub mod PacketAnswers
 pub mod Examples
 pub mod RuledOut

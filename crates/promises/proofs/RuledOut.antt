@@ -6,11 +6,11 @@ use Prim.Native.Nat.{ℕ, _%_, _≤_}
 use native.Mathlib.Omega.{arith}
 use lib.ListN.{replicate, take}
 use Rattle.bits.specs.Sums.{at, sum}
-use Rattle.table.specs.Limits.{noughts}
+use Rattle.table.specs.Limits.{maxStripes, noughts}
 use Rattle.table.specs.Desk.{Grows, desk, entry, most, reach, packetBits, packetBytes, placeOf}
-use Rattle.table.specs.Checks.{Checked, sizeChecks, familyNumberChecks, shapeChecks, markedChecks, numberChecks, marksChecks, outputChecks}
+use Rattle.table.specs.Checks.{Checked, Outside, sizeChecks, familyNumberChecks, shapeChecks, markedChecks, numberChecks, marksChecks, outputChecks}
 use Rattle.table.proofs.CheckLaws.{numbered-by, passed, checked-once, goes, below-by, from-later, asked-parts}
-use Rattle.table.proofs.Taken.{lowB, insideB, sizeB, tableB, shapeB, size-taken}
+use Rattle.table.proofs.Taken.{lowB, insideB, sizeB, tableB, shapeB, takenB, size-taken, shape-taken}
 use Rattle.family.specs.Promise.{familyChecks, FamilyWritten, Judged}
 use Rattle.encode.specs.Promise.{EncodedAll, PacketMeasured, ParitiesMeasured, SurvivorsMeasured}
 use Rattle.walk.specs.Walk.{Next, none, one}
@@ -21,6 +21,9 @@ use Rattle.steps.proofs.OneAnswer.{one-checked}
 use Rattle.rebuild.specs.Stages.{decodeChecks, rebuildLengthsChecks, rebuildLentChecks}
 use Rattle.rebuild.specs.Promise.{Rebuilt}
 use Rattle.rebuild.proofs.OneAnswer.{one-rebuilt}
+use Rattle.logbook.specs.Stages.{logStripedChecks}
+use Rattle.logbook.specs.Promise.{logChecks, LogRebuilt}
+use Rattle.logbook.proofs.OneAnswer.{one-log}
 use Rattle.packet.specs.Promise.{PacketMade}
 use Rattle.packet.proofs.CheckParts.{made-parts}
 use Rattle.packet.proofs.OneAnswer.{one-packet-made}
@@ -29,29 +32,18 @@ use Rattle.promises.proofs.AnyPacket.{marks-of-the-sources, numbers-fro
 use Rattle.promises.proofs.Demands.{five-is-for-another-length}
 use Rattle.promises.specs.StepLists.{last, more}
 use Rattle.promises.proofs.Stepping.{stepping-is-the-walk}
-use Rattle.promises.specs.Examples.{Name, house, house3, hankelTall, uneven, seven, eight, steppedSources, ownParities, otherParities, five, nine, twelve}
+use Rattle.promises.specs.Examples.{Name, house, house3, hankelTall, uneven, seven, eight, steppedSources, ownParities, otherParities, four, five, six, nine, twelve}
+use Rattle.promises.specs.Examples.{parities, stray, foreign, badLog, goodLog}
 use Rattle.promises.proofs.RebuildAnswers.{bytesB, bytes-told}
+use Rattle.promises.proofs.LogAnswers.{stops-at, log-outcome-meets}
 use Rattle.promises.proofs.PacketAnswers.{none-such, packet-outcome-meets}
 use Rattle.promises.proofs.Examples.{example-met}
 
 -- ---- the buffers and packets of the examples
 
--- what two bytes and four held that a call was lent
+-- what two bytes held that a call was lent
 abbrev two : List ℕ
 two = 9 ∷ 9 ∷ []
-
-abbrev four : List ℕ
-four = 9 ∷ 9 ∷ 9 ∷ 9 ∷ []
-
--- both parities of the sources 01 01; with a one above the last bit of parity 2; and such that no sources encode to them
-abbrev parities : List ℕ
-parities = 0x03 ∷ 0x00 ∷ 0x05 ∷ 0x00 ∷ []
-
-abbrev stray : List ℕ
-stray = 0x03 ∷ 0x00 ∷ 0x05 ∷ 0x04 ∷ []
-
-abbrev foreign : List ℕ
-foreign = 0x03 ∷ 0x00 ∷ 0x05 ∷ 0x01 ∷ []
 
 -- the sources 80 C0, and both their parities
 abbrev ownSources : List ℕ
@@ -396,6 +388,82 @@ pub no-output-of-a-refused-rebuild : {number count : ℕ} → Rebuilt 2 2 1 hous
 no-output-of-a-refused-rebuild {number} {count} x =
     let e = one-rebuilt 2 2 1 house 12 foreign two number count (0x01 ∷ 0x01 ∷ []) 10 0 two x (example-met Name.rebuild-no-sources) in
     omega (arith, ap (λ l. at l 0) (e .2))
+
+-- ---- rebuild log
+
+-- every stripe looked through for 9 before any for 10: stripe 2 gets 10, and stripe 3 would get 9
+pub no-nine-of-a-later-stripe : {good count : ℕ} {after : List ℕ} → LogRebuilt 2 2 1 house 3 12 badLog six 9 good count after → ⊥
+no-nine-of-a-later-stripe x =
+    let e = one-log 2 2 1 house 3 12 badLog six x (example-met Name.log-bad-stripe) in
+    omega (arith, e .0)
+
+-- the bad stripe counted with the good one
+pub no-bad-stripe-counted : {number count : ℕ} {after : List ℕ} → LogRebuilt 2 2 1 house 3 12 badLog six number 2 count after → ⊥
+no-bad-stripe-counted x =
+    let e = one-log 2 2 1 house 3 12 badLog six x (example-met Name.log-bad-stripe) in
+    omega (arith, e .1)
+
+-- a log whose second stripe gets 9
+stray-log : LogRebuilt 2 2 1 house 2 12 (parities ++ stray) four 9 1 0 (0x01 ∷ 0x01 ∷ two)
+unfolding measuring takenB shapeB sizeB insideB tableB lowB
+stray-log =
+    log-outcome-meets 2 2 1 house 2 12 (parities ++ stray) four (record { taken = refl; few = refl; input = refl; output = refl })
+    (stops-at 9 1 16 (omega arith) (omega arith) (tt, example-met Name.rebuild-both-parities) (example-met Name.rebuild-one-above) (refl, refl))
+
+-- the steps of a good stripe left standing with 10, and with 9
+pub no-count-with-a-foreign-stripe : {number good : ℕ} {after : List ℕ} → LogRebuilt 2 2 1 house 3 12 badLog six number good 16 after → ⊥
+no-count-with-a-foreign-stripe x =
+    let e = one-log 2 2 1 house 3 12 badLog six x (example-met Name.log-bad-stripe) in
+    omega (arith, e .2)
+
+pub no-count-with-a-stray-stripe : {number good : ℕ} {after : List ℕ} → LogRebuilt 2 2 1 house 2 12 (parities ++ stray) four number good 16 after → ⊥
+no-count-with-a-stray-stripe x =
+    let e = one-log 2 2 1 house 2 12 (parities ++ stray) four x stray-log in
+    omega (arith, e .2)
+
+-- what was read of the bad stripe written; and nothing written, because a stripe is bad
+pub no-bad-stripe-written : {number good count : ℕ} → LogRebuilt 2 2 1 house 3 12 badLog six number good count (0x01 ∷ 0x01 ∷ 0x01 ∷ 0x01 ∷ 9 ∷ 9 ∷ []) → ⊥
+no-bad-stripe-written x =
+    let e = one-log 2 2 1 house 3 12 badLog six x (example-met Name.log-bad-stripe) in
+    omega (arith, ap (λ l. at l 2) (e .3))
+
+pub no-good-stripe-unwritten : {number good count : ℕ} → LogRebuilt 2 2 1 house 3 12 badLog six number good count six → ⊥
+no-good-stripe-unwritten x =
+    let e = one-log 2 2 1 house 3 12 badLog six x (example-met Name.log-bad-stripe) in
+    omega (arith, ap (λ l. at l 0) (e .3))
+
+-- every stripe written to the front
+pub no-stripe-to-the-front : {number good count : ℕ} → LogRebuilt 2 2 1 house 3 12 goodLog six number good count (0x01 ∷ 0x01 ∷ four) → ⊥
+no-stripe-to-the-front x =
+    let e = one-log 2 2 1 house 3 12 goodLog six x (example-met Name.log-three-alike) in
+    omega (arith, ap (λ l. at l 2) (e .3))
+
+-- a count times the stripes
+pub no-count-times-the-stripes : {number good : ℕ} {after : List ℕ} → LogRebuilt 2 2 1 house 3 12 goodLog six number good 48 after → ⊥
+no-count-times-the-stripes x =
+    let e = one-log 2 2 1 house 3 12 goodLog six x (example-met Name.log-three-alike) in
+    omega (arith, e .2)
+
+-- at a stall every stripe told good, because none was looked at
+pub no-good-stripe-at-a-stall : {number count : ℕ} {after : List ℕ} → LogRebuilt 2 2 1 seven 2 12 (parities ++ parities) four number 2 count after → ⊥
+no-good-stripe-at-a-stall x =
+    let e = one-log 2 2 1 seven 2 12 (parities ++ parities) four x (example-met Name.log-seven) in
+    omega (arith, e .1)
+
+-- so many stripes as there cannot be get 25, whatever the marks and the lengths are
+wrong-stripes : (stripes marks : ℕ) (packets before : List ℕ) → Outside maxStripes stripes → Checked (logChecks 2 2 1 house stripes marks packets before) 25
+unfolding shapeB sizeB insideB tableB lowB
+wrong-stripes stripes marks packets before outside =
+    let shape = shapeChecks 2 2 1 house in
+    goes shape (logStripedChecks (desk 2 2 1 house marks) stripes packets marks before) 25 (numbered-by shape refl) (shape-taken 2 2 1 house refl) (inl (outside, refl))
+
+-- 6 checked before 25: seventeen stripes, and a mark of packet 17
+pub no-six-before-twenty-five : {good count : ℕ} {after : List ℕ} → LogRebuilt 2 2 1 house 17 0x1000C [] [] 6 good count after → ⊥
+no-six-before-twenty-five x = omega (arith, checked-once (logChecks 2 2 1 house 17 0x1000C [] []) 6 25 (x .numbered) (wrong-stripes 17 0x1000C [] [] (inr (omega arith))))
+
+-- a log of no stripes taken: its buffers have their length, which is 0
+pub no-log-of-no-stripes : {good count : ℕ} {after : List ℕ} → LogRebuilt 2 2 1 house 0 12 [] [] 0 good count after → ⊥
+no-log-of-no-stripes x = omega (arith, checked-once (logChecks 2 2 1 house 0 12 [] []) 0 25 (x .numbered) (wrong-stripes 0 12 [] [] (inl (omega arith))))
 
 -- ---- packet
 

@@ -20,6 +20,7 @@ use Rattle.walk.specs.Ends.{Finishes}
 use Rattle.steps.specs.Promise.{stepListChecks, StepsChecked}
 use Rattle.survivors.specs.Packets.{EncodesTo, cameSource, cameParity}
 use Rattle.rebuild.specs.Promise.{rebuildChecks, Rebuilt}
+use Rattle.logbook.specs.Promise.{logChecks, LogRebuilt}
 use Rattle.packet.specs.Promise.{wantedChecks, PacketMade}
 use Rattle.look.specs.Promise.{lookChecks, LookedAt}
 use Rattle.card.specs.Block.{maxInformation, blockChecks, IBlock}
@@ -72,6 +73,9 @@ pub record CallsListed : Type 0 where
   pub rebuild : (k m l : ℕ) (table : List ℕ) (marks : ℕ) (packets before : List ℕ) (number count : ℕ) (after : List ℕ)
       → Rebuilt k m l table marks packets before number count after
       → MadeInOrder (rebuildChecks k m l table marks packets before) (1 ∷ 2 ∷ 3 ∷ 6 ∷ 7 ∷ 4 ∷ 5 ∷ 8 ∷ 9 ∷ 10 ∷ []) number
+  pub rebuild-log : (k m l : ℕ) (table : List ℕ) (stripes marks : ℕ) (packets before : List ℕ) (number good count : ℕ) (after : List ℕ)
+      → LogRebuilt k m l table stripes marks packets before number good count after
+      → MadeInOrder (logChecks k m l table stripes marks packets before) (1 ∷ 2 ∷ 3 ∷ 25 ∷ 6 ∷ 7 ∷ 4 ∷ 5 ∷ 8 ∷ 9 ∷ 10 ∷ []) number
   pub packet : (k m l : ℕ) (table : List ℕ) (marks : ℕ) (packets : List ℕ) (wanted : ℕ) (before : List ℕ) (number : ℕ) (after : List ℕ)
       → PacketMade k m l table marks packets wanted before number after
       → MadeInOrder (wantedChecks k m l table marks packets wanted before) (1 ∷ 2 ∷ 3 ∷ 6 ∷ 7 ∷ 4 ∷ 5 ∷ 8 ∷ 9 ∷ 10 ∷ []) number
@@ -134,6 +138,16 @@ RebuildKeeps =
     → Rebuilt k m l table marks packets before number count after
     → (number ≡ 0 → ⊥)
     → after ≡ before
+
+-- Rebuild log keeps it whole and tells of no stripe; but with 9 and 10, where the good stripes' sources are written, it keeps it from the bad stripe on, and its length.
+abbrev pub LogKeeps : Type 0
+LogKeeps =
+    (k m l : ℕ) (table : List ℕ) (stripes marks : ℕ) (packets before : List ℕ) (number good count : ℕ) (after : List ℕ)
+    → LogRebuilt k m l table stripes marks packets before number good count after
+    → (number ≡ 0 → ⊥)
+    → let w = sourcesBytes (desk k m l table marks) in
+    (((number ≡ 9) ⊎ (number ≡ 10) → ⊥) → (after ≡ before) × (good ≡ 0))
+    × ((number ≡ 9) ⊎ (number ≡ 10) → (drop (good * w) after ≡ drop (good * w) before) × (length after ≡ length before))
 
 abbrev pub PacketKeeps : Type 0
 PacketKeeps =

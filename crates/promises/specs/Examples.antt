@@ -9,6 +9,7 @@ use Rattle.encode.specs.Promise.{EncodedAll, PacketMeasured, ParitiesMeasured}
 use Rattle.walk.specs.Promise.{Walked}
 use Rattle.steps.specs.Promise.{StepsChecked}
 use Rattle.rebuild.specs.Promise.{Rebuilt}
+use Rattle.logbook.specs.Promise.{LogRebuilt}
 use Rattle.packet.specs.Promise.{PacketMade}
 use Rattle.card.specs.Promise.{BlockTaken}
 use Rattle.chain.specs.Promise.{BlocksRead, BlocksWritten}
@@ -24,6 +25,7 @@ pub data Example : Type 0 where
   walk : (k m l : ℕ) (table : List ℕ) (marks count whole : ℕ) (progress : List ℕ) → Example
   check-steps : (k m l : ℕ) (table : List ℕ) (marks : ℕ) (parities sources : List ℕ) (number place : ℕ) → Example
   rebuild : (k m l : ℕ) (table : List ℕ) (marks : ℕ) (packets before : List ℕ) (number count : ℕ) (after : List ℕ) → Example
+  rebuild-log : (k m l : ℕ) (table : List ℕ) (stripes marks : ℕ) (packets before : List ℕ) (number good count : ℕ) (after : List ℕ) → Example
   make : (k m l : ℕ) (table : List ℕ) (marks : ℕ) (packets : List ℕ) (wanted : ℕ) (before : List ℕ) (number : ℕ) (after : List ℕ) → Example
   block : (bytes before : List ℕ) (count sequence more : ℕ) (after : List ℕ) → Example
   read : (run before : List ℕ) (number count : ℕ) (after : List ℕ) → Example
@@ -40,6 +42,7 @@ Met (encode k m l table sources before parities) = EncodedAll k m l table source
 Met (walk k m l table marks count whole progress) = Walked k m l table marks 0 count whole progress
 Met (check-steps k m l table marks parities sources number place) = StepsChecked k m l table marks parities sources number place
 Met (rebuild k m l table marks packets before number count after) = Rebuilt k m l table marks packets before number count after
+Met (rebuild-log k m l table stripes marks packets before number good count after) = LogRebuilt k m l table stripes marks packets before number good count after
 Met (make k m l table marks packets wanted before number after) = PacketMade k m l table marks packets wanted before number after
 Met (block bytes before count sequence more after) = BlockTaken bytes before 0 count sequence more after
 Met (read run before number count after) = BlocksRead run before number count after
@@ -104,6 +107,7 @@ pub data Name : Type 0 where
   steps-none-missing steps-none-written steps-nought steps-unequal : Name
   rebuild-both-parities rebuild-one-parity rebuild-no-parity rebuild-high-bits : Name
   rebuild-one-above rebuild-past-the-row rebuild-no-sources rebuild-seven rebuild-eight rebuild-stuck : Name
+  log-bad-stripe log-three-alike log-seven : Name
   packet-parity-of-sources packet-source-of-sources packet-lost packet-at-hand packet-no-sources packet-none-such : Name
   block-two-bytes block-two-bytes-next block-no-bytes block-first-of-two : Name
   run-of-two run-first-alone run-second-first run-byte-behind run-empty run-byte-after-more : Name
@@ -119,9 +123,32 @@ ownParities = 1 ∷ 2 ∷ 1 ∷ 2 ∷ 1 ∷ 2 ∷ 1 ∷ 2 ∷ 1 ∷ 2 ∷ 1 ∷ 
 abbrev pub otherParities : List ℕ
 otherParities = 2 ∷ 2 ∷ 1 ∷ 2 ∷ 1 ∷ 2 ∷ 1 ∷ 2 ∷ 1 ∷ 2 ∷ 1 ∷ 2 ∷ 1 ∷ 2 ∷ 2 ∷ 2 ∷ []
 
--- five bytes, nine, and twelve
+-- both parities of the sources 01 01; with a one above the last bit of parity 2; and such that no sources encode to them
+abbrev pub parities : List ℕ
+parities = 0x03 ∷ 0x00 ∷ 0x05 ∷ 0x00 ∷ []
+
+abbrev pub stray : List ℕ
+stray = 0x03 ∷ 0x00 ∷ 0x05 ∷ 0x04 ∷ []
+
+abbrev pub foreign : List ℕ
+foreign = 0x03 ∷ 0x00 ∷ 0x05 ∷ 0x01 ∷ []
+
+-- a log whose second stripe gets 10, where its third would get 9; and one of three stripes alike
+abbrev pub badLog : List ℕ
+badLog = parities ++ foreign ++ stray
+
+abbrev pub goodLog : List ℕ
+goodLog = parities ++ parities ++ parities
+
+-- four bytes, five, six, nine, and twelve
+abbrev pub four : List ℕ
+four = 9 ∷ 9 ∷ 9 ∷ 9 ∷ []
+
 abbrev pub five : List ℕ
 five = 9 ∷ 9 ∷ 9 ∷ 9 ∷ 9 ∷ []
+
+abbrev pub six : List ℕ
+six = 9 ∷ 9 ∷ 9 ∷ 9 ∷ 9 ∷ 9 ∷ []
 
 abbrev pub nine : List ℕ
 nine = 9 ∷ 9 ∷ 9 ∷ 9 ∷ 9 ∷ 9 ∷ 9 ∷ 9 ∷ 9 ∷ []
@@ -187,6 +214,10 @@ example rebuild-no-sources = rebuild 2 2 1 house 12 (0x03 ∷ 0x00 ∷ 0x05 ∷ 
 example rebuild-seven = rebuild 2 2 1 seven 12 (0x03 ∷ 0x00 ∷ 0x05 ∷ 0x00 ∷ []) (9 ∷ 9 ∷ []) 8 7 (9 ∷ 9 ∷ [])
 example rebuild-eight = rebuild 2 2 1 eight 12 (0x01 ∷ 0x01 ∷ 0x01 ∷ 0x01 ∷ []) (9 ∷ 9 ∷ []) 0 16 (0x01 ∷ 0x01 ∷ [])
 example rebuild-stuck = rebuild 3 3 1 stuck 56 (1 ∷ 2 ∷ 3 ∷ 4 ∷ 5 ∷ 6 ∷ []) (9 ∷ 9 ∷ 9 ∷ []) 8 0 (9 ∷ 9 ∷ 9 ∷ [])
+-- the sources of stripe 1 are written, and nothing behind them
+example log-bad-stripe = rebuild-log 2 2 1 house 3 12 badLog six 10 1 0 (0x01 ∷ 0x01 ∷ four)
+example log-three-alike = rebuild-log 2 2 1 house 3 12 goodLog six 0 3 16 (0x01 ∷ 0x01 ∷ 0x01 ∷ 0x01 ∷ 0x01 ∷ 0x01 ∷ [])
+example log-seven = rebuild-log 2 2 1 seven 2 12 (parities ++ parities) four 8 0 7 four
 example packet-parity-of-sources = make 2 2 1 house 3 (0x80 ∷ 0xC0 ∷ []) 4 (9 ∷ 9 ∷ []) 0 (0x80 ∷ 0x03 ∷ [])
 example packet-source-of-sources = make 2 2 1 house 3 (0x80 ∷ 0xC0 ∷ []) 2 (9 ∷ []) 0 (0xC0 ∷ [])
 example packet-lost = make 2 2 1 house 12 (0x00 ∷ 0x01 ∷ 0x80 ∷ 0x03 ∷ []) 1 (9 ∷ []) 0 (0x80 ∷ [])
@@ -258,6 +289,9 @@ examples =
     ∷ rebuild-seven
     ∷ rebuild-eight
     ∷ rebuild-stuck
+    ∷ log-bad-stripe
+    ∷ log-three-alike
+    ∷ log-seven
     ∷ packet-parity-of-sources
     ∷ packet-source-of-sources
     ∷ packet-lost

@@ -63,7 +63,7 @@ fn refused(number: u64) -> RebuildAnswer
 }
 
 // The sources in the rows into out, which has their length.
-fn store_sources(s: Shape, rows: &[u64], out: &mut [u8])
+pub fn store_sources(s: Shape, rows: &[u64], out: &mut [u8])
     requires { ⌜ s .k ≤ maxK ⌝ }
     requires { ⌜ s .length ≤ maxLength ⌝ }
     requires { ⌜ Roomy (now rows) ⌝ }

@@ -5,8 +5,8 @@ use mathlib.Core.List.{List, [], _∷_}
 use Prim.Native.Nat.{ℕ, _+_, _≤_, _<_}
 use lib.Dec.{ltb}
 use lib.ListN.{length}
-use Rattle.bits.specs.Bits.{bitAt, Bytes, slice}
-use Rattle.table.specs.Desk.{Desk, sourcesBytes, packetBits, packetBytes, placeOf}
+use Rattle.bits.specs.Bits.{bitAt, Bytes, slice, part}
+use Rattle.table.specs.Desk.{Desk, sourcesBytes, packetBits, packetBytes, placeOf, survivorsBytes}
 use Rattle.table.specs.Checks.{Checks}
 use Rattle.code.specs.Code.{Bits, survivorsOf}
 
@@ -37,3 +37,7 @@ module _ (D : Desk) (packets : List ℕ) where
   -- 9: a packet at hand has a one above its last bit; 10: no sources encode to these packets
   abbrev pub packetsChecks : Checks
   packetsChecks = (9, Stray) ∷ (10, (x : List ℕ) → EncodesTo x → ⊥) ∷ []
+
+-- stripe t, from 0, of a logbook: the packets at hand of one stripe after those of the other
+abbrev pub stripe : Desk → List ℕ → ℕ → List ℕ
+stripe D packets t = part packets (survivorsBytes D) t

@@ -10,9 +10,9 @@ use Rattle.bits.specs.Sums.{at, count}
 use mathlib.Core.Bool.{Bool, true, _&&_, and-eq-true-iff}
 use lib.Dec.{ltb}
 use borrow.Author.Tests.{ltb-true}
-use Rattle.table.specs.Limits.{maxK, maxM, maxLength, maxShift, maxFamily}
+use Rattle.table.specs.Limits.{maxK, maxM, maxLength, maxShift, maxFamily, maxStripes}
 use Rattle.table.specs.Desk.{mark}
-use Rattle.table.specs.Checks.{Checks, Checked, Flag, Outside, asked, marksChecks, sizeChecks, familyNumberChecks, lengthChecks, tableChecks}
+use Rattle.table.specs.Checks.{Checks, Checked, Flag, Outside, asked, marksChecks, sizeChecks, familyNumberChecks, lengthChecks, tableChecks, stripesChecks}
 use Rattle.table.specs.Checks.{numberChecks, askedChecks, inputChecks, outputChecks}
 
 -- two numbers that a list of checks gives are the same
@@ -165,6 +165,9 @@ family-in-range family c = not-outside maxFamily family (alone (omega arith) c)
 
 pub lengthed : (l : ℕ) → Checked (lengthChecks l) 0 → (1 ≤ l) × (l ≤ maxLength)
 lengthed l c = not-outside maxLength l (alone (omega arith) c)
+
+pub striped : (stripes : ℕ) → Checked (stripesChecks stripes) 0 → (1 ≤ stripes) × (stripes ≤ maxStripes)
+striped stripes c = not-outside maxStripes stripes (alone (omega arith) c)
 
 pub one-of : (n i : ℕ) → Checked (numberChecks n i) 0 → (1 ≤ i) × (i ≤ n)
 one-of n i c = not-outside n i (alone (omega arith) c)

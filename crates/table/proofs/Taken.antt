@@ -10,9 +10,9 @@ use lib.Dec.{eqb, ltb, leb}
 use lib.ListN.{length}
 use borrow.Author.Tests.{ltb-true, leb-true, eqb-true}
 use Rattle.bits.specs.Sums.{at, count}
-use Rattle.table.specs.Limits.{maxK, maxM, maxLength, maxShift, maxFamily}
+use Rattle.table.specs.Limits.{maxK, maxM, maxLength, maxShift, maxFamily, maxStripes}
 use Rattle.table.specs.Desk.{mark}
-use Rattle.table.specs.Checks.{Checked, Outside, sizeChecks, familyNumberChecks, lengthChecks, tableChecks, numberChecks, marksChecks, shapeChecks, markedChecks}
+use Rattle.table.specs.Checks.{Checked, Outside, sizeChecks, familyNumberChecks, lengthChecks, tableChecks, stripesChecks, numberChecks, marksChecks, shapeChecks, markedChecks}
 use Rattle.table.proofs.CheckLaws.{numbered-by, goes, neither, inside}
 use Rattle.table.proofs.MarkLaws.{no-mark-above}
 
@@ -54,6 +54,9 @@ inside-not most n e =
 
 pub family-taken : (family : ℕ) → insideB maxFamily family ≡ true → Checked (familyNumberChecks family) 0
 family-taken family e = inr (inside-not maxFamily family e, refl)
+
+pub stripes-taken : (stripes : ℕ) → insideB maxStripes stripes ≡ true → Checked (stripesChecks stripes) 0
+stripes-taken stripes e = inr (inside-not maxStripes stripes e, refl)
 
 pub number-taken : (n i : ℕ) → insideB n i ≡ true → Checked (numberChecks n i) 0
 number-taken n i e = inr (inside-not n i e, refl)

@@ -6,7 +6,7 @@ use mathlib.Core.List.{List, [], _∷_, _++_}
 use Prim.Native.Nat.{ℕ, _+_, _*_, _≤_, _<_}
 use lib.ListN.{length}
 use Rattle.bits.specs.Sums.{at, count}
-use Rattle.table.specs.Limits.{maxK, maxM, maxLength, maxShift, maxFamily}
+use Rattle.table.specs.Limits.{maxK, maxM, maxLength, maxShift, maxFamily, maxStripes}
 use Rattle.table.specs.Desk.{mark, sourceBits}
 
 abbrev pub Checks : Type 1
@@ -20,7 +20,7 @@ Checked (c ∷ cs) n = (c .1 × (n ≡ c .0)) ⊎ ((c .1 → ⊥) × Checked cs 
 -- The list, in order of checking: first the class sheet's own number, then those of the code, with 36, which only the writer of blocks gives, before 4; then those of a block.
 -- A call makes the checks that it has the input for.
 abbrev pub theList : List ℕ
-theList = 18 ∷ 1 ∷ 19 ∷ 2 ∷ 3 ∷ 6 ∷ 7 ∷ 17 ∷ 36 ∷ 4 ∷ 5 ∷ 22 ∷ 23 ∷ 24 ∷ 8 ∷ 9 ∷ 10 ∷ 11 ∷ 12 ∷ 13 ∷ 14 ∷ 15 ∷ 20 ∷ 21 ∷ 16 ∷ []
+theList = 18 ∷ 1 ∷ 19 ∷ 2 ∷ 3 ∷ 25 ∷ 6 ∷ 7 ∷ 17 ∷ 36 ∷ 4 ∷ 5 ∷ 22 ∷ 23 ∷ 24 ∷ 8 ∷ 9 ∷ 10 ∷ 11 ∷ 12 ∷ 13 ∷ 14 ∷ 15 ∷ 20 ∷ 21 ∷ 16 ∷ []
 
 -- numbers that are part of a list, in its order; the same may stand more than once, one right after the other
 abbrev pub InOrder : List ℕ → List ℕ → Type 0
@@ -71,6 +71,10 @@ lengthChecks l = (2, Outside maxLength l) ∷ []
 -- 3: the table is not m·k bytes, or an entry is above the largest shift
 abbrev pub tableChecks : ℕ → ℕ → List ℕ → Checks
 tableChecks k m table = (3, (length table ≡ m * k → ⊥) ⊎ ((i : ℕ) × (maxShift < at table i))) ∷ []
+
+-- 25: the stripes are none or above their limit
+abbrev pub stripesChecks : ℕ → Checks
+stripesChecks stripes = (25, Outside maxStripes stripes) ∷ []
 
 -- 6: a number, counted from 1, is none of n packets or sources
 abbrev pub numberChecks : ℕ → ℕ → Checks

@@ -22,6 +22,10 @@ maxShift = 64
 abbrev pub maxFamily : ℕ
 maxFamily = 3
 
+-- the most stripes of a logbook
+abbrev pub maxStripes : ℕ
+maxStripes = 16
+
 -- the cells of the full sheet
 abbrev pub cells : ℕ
 cells = maxM * maxK
@@ -48,9 +52,10 @@ longest = bytesFor (maxBits + maxShift)
 abbrev pub noughts : List ℕ
 noughts = replicate maxK 0
 
-pub record Limited (sources parities length shift families : ℕ) : Type 0 where
+pub record Limited (sources parities length shift families stripes : ℕ) : Type 0 where
   pub sources-are : sources ≡ maxK
   pub parities-are : parities ≡ maxM
   pub length-is : length ≡ maxLength
   pub shift-is : shift ≡ maxShift
   pub families-are : families ≡ maxFamily
+  pub stripes-are : stripes ≡ maxStripes

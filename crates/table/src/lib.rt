@@ -106,6 +106,9 @@ impl Number {
     // the list of steps ends before all missing sources are whole
     pub const STEPS_EARLY: u64 = 24;
 
+    // the stripes are none or above their limit
+    pub const STRIPES: u64 = 25;
+
     // the size to cut a packet by is not 1 to 254
     pub const CUT: u64 = 36;
 }
@@ -131,6 +134,7 @@ pub struct Limits {
     pub length: u64,
     pub shift: u8,
     pub families: u64,
+    pub stripes: u64,
 }
 
 impl Table {
@@ -144,6 +148,9 @@ impl Table {
 
     // The families are 1 to this.
     pub const FAMILIES: u64 = 3;
+
+    // The most stripes of a logbook.
+    pub const MAX_STRIPES: u64 = 16;
 
     // The sources, as the length of an array of progress numbers.
     pub const SOURCES: usize = Table::MAX_K as usize;
@@ -230,7 +237,7 @@ impl Table {
 
     // The limits that the definitions state are those of the code.
     pub fn limits() -> Limits
-        ensures { λ r. ⌜ Limited (r .sources) (r .parities) (r .length) (r .shift) (r .families) ⌝ }
+        ensures { λ r. ⌜ Limited (r .sources) (r .parities) (r .length) (r .shift) (r .families) (r .stripes) ⌝ }
     {
         Limits {
             sources: Table::MAX_K,
@@ -238,6 +245,7 @@ impl Table {
             length: Table::MAX_LENGTH,
             shift: Table::MAX_SHIFT,
             families: Table::FAMILIES,
+            stripes: Table::MAX_STRIPES,
         }
     }
 

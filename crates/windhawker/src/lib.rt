@@ -5,6 +5,7 @@ ghost use Rattle.encode.specs.Promise.{EncodedAll, PacketMeasured, ParitiesMeas
 ghost use Rattle.walk.specs.Promise.{Walked, Stepped};
 ghost use Rattle.steps.specs.Promise.{StepsChecked};
 ghost use Rattle.rebuild.specs.Promise.{Rebuilt};
+ghost use Rattle.logbook.specs.Promise.{LogRebuilt};
 ghost use Rattle.packet.specs.Promise.{PacketMade};
 ghost use Rattle.look.specs.Promise.{LookedAt};
 ghost use Rattle.card.specs.Promise.{BlockTaken};
@@ -212,6 +213,28 @@ pub extern "C" fn whx_rebuild(
     let a = rebuild::rebuild(k, m, l, table, marks, packets, out);
     *count = a.count;
     a.number
+}
+
+// All sources of each stripe of a logbook from its packets at hand, up to the first bad stripe.
+#[no_mangle]
+pub extern "C" fn whx_rebuild_log(
+    k: u64,
+    m: u64,
+    l: u64,
+    table: &[u8],
+    stripes: u64,
+    marks: u64,
+    packets: &[u8],
+    out: &mut [u8],
+    good: &mut u64,
+    count: &mut u64,
+) -> u64
+    ensures { λ r. ⌜ LogRebuilt k m l (now (table .entry)) stripes marks (now (packets .entry)) (now (out .entry)) r (now (good .exit)) (now (count .exit)) (now (out .exit)) ⌝ }
+{
+    let log = logbook::rebuild_log(k, m, l, table, stripes, marks, packets, out);
+    *good = log.good;
+    *count = log.count;
+    log.number
 }
 
 // Any packet from the packets at hand.

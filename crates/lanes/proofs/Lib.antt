@@ -1,0 +1,9 @@
+pub mod WordLaws
+pub mod PlaceLaws
+pub mod KnownLaws
+pub mod LeftLaws
+pub mod PutLaws
+pub mod StripeLaws
+pub mod LaneSteps
+pub mod Candidates
+pub mod OnePlan

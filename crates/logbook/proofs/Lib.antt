@@ -1,0 +1,4 @@
+pub mod PartLaws
+pub mod CheckParts
+pub mod StageLaws
+pub mod OneAnswer

@@ -1,0 +1,4 @@
+pub mod BadLaws
+pub mod LaidLaws
+pub mod DoneLaws
+pub mod CandidateLaws
