@@ -22,7 +22,7 @@ SHARED  = target/shared/$(SONAME)
 PAGES   = target/man/windhawker.3
 PC      = target/windhawker.pc
 LAB     = $(patsubst lab/%.c,target/lab/%,$(wildcard lab/*.c)) target/lab/cards
-PROOFS  = $(shell find crates crates.txt -type f ! -path '*/must-fail/*' ! -name '*.c' ! -name stdout 2>/dev/null)
+PROOFS  = $(shell find crates crates.txt -name out -prune -o -type f ! -path '*/must-fail/*' ! -name stdout -print 2>/dev/null)
 VERSION = $(shell sed -n 's/^.define WH_VERSION "\(.*\)"/\1/p' include/windhawker.h)
 
 # The library is for x86-64. tools/machine.sh knows how any machine compiles for that.
@@ -36,7 +36,7 @@ lab: $(LAB)
 
 # rt proves the library before it makes the archive, which takes a few minutes.
 $(ARCHIVE): $(PROOFS)
-	rt staticlib windhawker
+	tools/build archive
 
 # The archive's object is position independent. The linker says no to it if it ever were not.
 $(SHARED): $(ARCHIVE) windhawker.map
@@ -53,16 +53,11 @@ target/lab/%: lab/%.c $(wildcard lab/*.h) $(HEADERS) $(ARCHIVE)
 	$(CC) $(CFLAGS) -Iinclude $(LDFLAGS) $< $(ARCHIVE) -o $@
 
 target/lab/cards: target/lab/5_cards
-	ln -sf 5_cards $@
+	cp -f $< $@
 
-# The class sheet: the proved program, and a status that says whether its output was written.
-target/class_sheet: crates/class_sheet/status.c target/obj/class_sheet.o
-	$(CC) $(CFLAGS) $(LDFLAGS) -Wl,--wrap=write $^ -o $@
-
-# rt proves the program and leaves its object; the archive first, so that rt does not run twice at once.
-target/obj/class_sheet.o: $(PROOFS) | $(ARCHIVE)
-	rt check class_sheet
-	@touch $@
+# The class sheet's program, proved by rt; the archive first, so that rt does not run twice at once.
+target/class_sheet: $(PROOFS) | $(ARCHIVE)
+	tools/build class_sheet
 
 test:
 	./test

@@ -52,6 +52,12 @@ needs_only_memory_functions() { # ARCHIVE
         grep -vx -e memcpy -e memmove -e memset
 }
 
+# Whether rt ci says in its line `rt: ok` that a must-fail edit is bad, one that cannot be applied, say. Such an edit
+# shows nothing of a contract, and rt ci passes all the same.
+has_bad_edits() { # FILE
+    grep -q '^rt: ok.*, [0-9][0-9]* bad' "$1"
+}
+
 # Prints the last line of all; fails unless all passed.
 add_up() {
     passed=$(grep -c '^ok ' "$results")

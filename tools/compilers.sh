@@ -5,12 +5,12 @@
 warnings='-Wall -Wextra -Wpedantic -Wconversion'
 
 kit_folder() {
-    dirname "$(dirname "$(rt doc)")"
+    dirname "$(rt doc)"
 }
 
-# The folder of the kit's clang and llvm-ar that run on this machine.
+# The folder of the kit's clang and llvm-ar.
 kit_compilers() {
-    echo "$(kit_folder)/on/$(uname -m)/toolchain/bin"
+    echo "$(kit_folder)/toolchain/bin"
 }
 
 install_from_debian() { # PACKAGES...

@@ -8,9 +8,9 @@ if [ "$(uname -m)" = x86_64 ]; then
     prefix='' link='' emulator=''
     compilers='gcc g++ libc6-dev binutils'
 else
-    prefix=x86_64-linux-gnu- link=-static
-    emulator=$(find "$(kit_folder)" -name qemu-x86_64 -type f | head -n 1)
-    compilers='gcc-x86-64-linux-gnu g++-x86-64-linux-gnu libc6-dev-amd64-cross'
+    prefix=x86_64-linux-gnu- link=-static emulator=qemu-x86_64
+    export QEMU_LD_PREFIX=/usr/x86_64-linux-gnu
+    compilers='gcc-x86-64-linux-gnu g++-x86-64-linux-gnu libc6-dev-amd64-cross qemu-user'
 fi
 
 # Installs Debian packages unless all these tools are there, and says which.
@@ -28,11 +28,6 @@ install_packages() { # PACKAGES TOOLS...
 
 # What the tests and the demo need.
 install_compilers() {
-    install_packages "$compilers make pkg-config" "${prefix}gcc" "${prefix}g++" "${prefix}nm" make pkg-config
-}
-
-# Runs a program that rt has proved and linked, as rt does: on the kit's own C library.
-run_proved() { # PROGRAM
-    toolchain=$(kit_folder)/toolchain
-    $emulator "$toolchain/lib/ld-linux-x86-64.so.2" --library-path "$toolchain/lib" "$1"
+    # shellcheck disable=SC2086
+    install_packages "$compilers make pkg-config" "${prefix}gcc" "${prefix}g++" "${prefix}nm" $emulator make pkg-config
 }

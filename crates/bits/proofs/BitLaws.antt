@@ -172,14 +172,14 @@ bit_at-drop xs n p =
     let e₁ : p % 8 ≡ (8 * n + p) % 8 = omega arith in
     ap (λ (x : ℕ). bit x (p % 8)) (get_or-drop n xs (p / 8) 0) ∙ ap₂ (λ (i j : ℕ). bit (get_or xs i 0) j) e₀ e₁
 
-pub get_d_zeros : (n k : ℕ) → get_or {A = ℕ} (replicate n 0) k 0 ≡ 0
-get_d_zeros zero k = refl
-get_d_zeros (suc n) zero = refl
-get_d_zeros (suc n) (suc k) = get_d_zeros n k
+pub get_or-zeros : (n k : ℕ) → get_or {A = ℕ} (replicate n 0) k 0 ≡ 0
+get_or-zeros zero k = refl
+get_or-zeros (suc n) zero = refl
+get_or-zeros (suc n) (suc k) = get_or-zeros n k
 
 pub zero_bits : (n q : ℕ) → bit_at (replicate n 0) q ≡ 0
 unfolding bit_at
-zero_bits n q = ap (λ (x : ℕ). bit x (q % 8)) (get_d_zeros n (q / 8)) ∙ bit_zero (q % 8)
+zero_bits n q = ap (λ (x : ℕ). bit x (q % 8)) (get_or-zeros n (q / 8)) ∙ bit_zero (q % 8)
 
 pub bytes_take : (xs : List ℕ) → Bytes xs → (i : ℕ) → Bytes (take i xs)
 bytes_take xs h i k =

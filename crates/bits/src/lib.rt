@@ -1,4 +1,6 @@
 // Bytes as bits: read one, turn one over, copy, compare, clear, nothing set above, the XOR of all.
+#![tactic(auto)]
+
 ghost use Rattle.std.specs.Prelude.{◌≡◌, ◌++◌, ℕ, ◌+◌, ◌*◌, ◌%◌, ◌<◌, ◌≤◌, length, drop, replicate};
 ghost use Rattle.bits.specs.Sums.{one_at};
 ghost use Rattle.bits.specs.Bits.{bit_at, Bytes, ClearFrom, Tells, xor_of};

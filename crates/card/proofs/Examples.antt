@@ -1,5 +1,4 @@
 -- The blocks among the examples of the rules (docs/RULES.md): each given answer meets the promise. Checked by computing. Assumes nothing.
-use mathlib.Core.Path.{refl}
 use mathlib.Core.List.{List, [], ◌∷◌}
 use Prim.Native.Nat.{ℕ}
 use native.Mathlib.Omega.{arith}

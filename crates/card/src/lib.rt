@@ -1,4 +1,6 @@
 // The card layer: one T=1 block as a reader hands it over.
+#![tactic(auto)]
+
 ghost use Rattle.std.specs.Prelude.{◌≡◌, length, ◌+◌, ◌≤◌, ◌<◌};
 ghost use Rattle.table.specs.Checks.{Checked};
 ghost use Rattle.card.specs.Block.{len, sequence_of, more_of, framing_checks, block_length_checks, content_checks, room_checks, form_checks, block_checks};
@@ -7,7 +9,7 @@ ghost use Rattle.card.specs.Promise.{BlockTaken};
 use table::Number;
 
 // What a block gives: its number, and with number 0 how many information bytes there are, N(S) and M.
-#[derive(Drop)]
+#[derive(Clone, Copy)]
 pub struct Taken {
     pub number: u64,
     pub length: u64,

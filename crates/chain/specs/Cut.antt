@@ -1,5 +1,5 @@
 -- A packet cut into blocks.
-use Rattle.std.specs.Prelude.{List, [], ◌∷◌, ◌++◌, ℕ, zero, suc, ◌+◌, ◌-◌, ◌*◌, ◌<◌, leb, length, take, drop}
+use Rattle.std.specs.Prelude.{List, [], ◌∷◌, ◌++◌, ℕ, zero, suc, ◌-◌, ◌*◌, ◌<◌, leb, length, take, drop}
 use Rattle.bits.specs.Sums.{pick}
 use Rattle.table.specs.Limits.{longest}
 use Rattle.table.specs.Checks.{Checks, Outside}

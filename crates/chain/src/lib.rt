@@ -1,4 +1,6 @@
 // Chained blocks: a run of blocks read into one packet, and a packet written as a run of blocks.
+#![tactic(auto)]
+
 mod reading;
 mod writing;
 
@@ -9,14 +11,14 @@ ghost use Rattle.chain.specs.Promise.{BlocksRead, BlocksWritten};
 use table::{Number, Table};
 
 // What a run of blocks gives: its number, and with number 0 how many bytes it carries.
-#[derive(Drop)]
+#[derive(Clone, Copy)]
 pub struct Joined {
     pub number: u64,
     pub length: u64,
 }
 
 // What was written: the number, and with number 0 how many bytes the blocks have.
-#[derive(Drop)]
+#[derive(Clone, Copy)]
 pub struct Written {
     pub number: u64,
     pub length: u64,

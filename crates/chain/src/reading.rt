@@ -8,7 +8,7 @@ ghost use Rattle.chain.specs.Reading.{BlockTold, RunTold, InformationPut, Fits, 
 use table::Number;
 
 // The first block of what is left: its number, and with number 0 M and how many bytes it carries.
-#[derive(Drop)]
+#[derive(Clone, Copy)]
 struct BlockAnswer {
     number: u64,
     more: u64,
@@ -16,7 +16,7 @@ struct BlockAnswer {
 }
 
 // A run: its number, and with number 0 how many bytes it carries.
-#[derive(Drop)]
+#[derive(Clone, Copy)]
 pub struct RunAnswer {
     pub number: u64,
     pub length: usize,

@@ -1,4 +1,6 @@
 // The checks that calls share: the numbers of the shape, and the shape and table that they accept.
+#![tactic(auto)]
+
 ghost use Rattle.std.specs.Prelude.{◌≡◌, ◌++◌, ℕ, ◌≤◌, ◌<◌};
 ghost use Rattle.bits.specs.Sums.{at};
 ghost use Rattle.bits.specs.Bits.{Tells};
@@ -10,7 +12,7 @@ ghost use Rattle.checks.specs.Opening.{Opens};
 use table::{Number, Shape, Table};
 
 // What the checks give: a number, and with number 0 the shape and its table.
-#[derive(Drop)]
+#[derive(Clone, Copy)]
 pub struct Opened {
     pub number: u64,
     pub shape: Shape,

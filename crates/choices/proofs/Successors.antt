@@ -8,7 +8,7 @@ use native.Mathlib.Numerals.{add-one}
 use lib.ListN.{length, take, drop, replicate, length-take, length-drop, length-append, length-replicate, take-append-drop}
 use lib.Seq.{take_at, drop_at, take-take, split_at, get_or-take}
 use Rattle.bits.specs.Sums.{at}
-use Rattle.bits.proofs.BitLaws.{get_d_zeros}
+use Rattle.bits.proofs.BitLaws.{get_or-zeros}
 use Rattle.table.specs.Limits.{max_k, max_m, noughts}
 use Rattle.table.specs.Checks.{Checked, size_checks}
 use Rattle.table.proofs.CheckLaws.{checked_once, sized}
@@ -18,7 +18,7 @@ use Rattle.choices.proofs.Orders.{Grows, rising_to, full_or_grows, grown, run_le
 use Rattle.choices.proofs.Holding.{blank}
 
 drop-noughts : (k : ℕ) → k ≤ max_k → drop k noughts ≡ replicate (max_k - k) 0
-drop-noughts k l = blank k noughts l (λ j _ _. get_d_zeros max_k j)
+drop-noughts k l = blank k noughts l (λ j _ _. get_or-zeros max_k j)
 
 -- numbers followed by as many noughts as are left are padded
 padded_by : (k : ℕ) (xs ys : List ℕ) → length xs ≡ k → ys ≡ replicate (max_k - k) 0 → xs ++ ys ≡ padded xs

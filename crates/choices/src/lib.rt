@@ -1,4 +1,6 @@
 // The choices of k of the packet numbers 1 to k + m, in dictionary order.
+#![tactic(auto)]
+
 ghost use Rattle.std.specs.Prelude.{◌≡◌, List, ◌++◌, ℕ, ◌+◌, ◌-◌, ◌^◌, ◌≤◌, ◌<◌, take, drop, replicate};
 ghost use Rattle.bits.specs.Sums.{at};
 ghost use Rattle.bits.specs.Bits.{Tells};
@@ -9,7 +11,7 @@ ghost use Rattle.choices.specs.Promise.{Holding, Begins, Follows, OrNoughts};
 use table::Table;
 
 // A choice: its packet numbers rise, and noughts stand after them. Noughts alone are no choice.
-#[derive(Drop)]
+#[derive(Clone, Copy)]
 pub struct Choice {
     pub ids: [u64; Table::SOURCES],
 }

@@ -1,5 +1,5 @@
 -- Laws of a parity's row: source after source is added to it, and parity after parity is put in its place. Assumes nothing.
-use mathlib.Core.Path.{◌≡◌, refl, sym, ap, ap₂, ◌∙◌, subst}
+use mathlib.Core.Path.{◌≡◌, sym, ap, ap₂, ◌∙◌, subst}
 use mathlib.Core.Bool.{true}
 use mathlib.Core.List.{List}
 use Prim.Native.Nat.{ℕ, zero, suc, ◌+◌, ◌-◌, ◌*◌, ◌/◌, ◌%◌, ◌≤◌, ◌<◌}
@@ -13,7 +13,7 @@ use lib.ListN.{length, replicate}
 use Rattle.bits.specs.Sums.{one_at, sum}
 use Rattle.bits.specs.Bits.{bit_at, up, Bytes, slice, part}
 use Rattle.bits.proofs.SumLaws.{mod_more}
-use Rattle.bits.proofs.BitLaws.{bit_zero, get_d_zeros}
+use Rattle.bits.proofs.BitLaws.{bit_zero, get_or-zeros}
 use Rattle.bits.proofs.SliceLaws.{slice-bit, slice-length, slice_bytes}
 use Rattle.rows.specs.Rows.{row_bits, row_words, row_in, AddedTo, Stored}
 use Rattle.rows.proofs.RowLaws.{row_lt, added_here}
@@ -58,7 +58,7 @@ module _ (D : Desk) (x : List ℕ) (a to : ℕ) where
 pub row_of_noughts : (n a p : ℕ) → row_in (replicate n 0) a p ≡ 0
 unfolding row_in
 row_of_noughts n a p = elim (dec_lt p row_bits) [
-  | yes l ↦ rw (lt-ltb p row_bits l, get_d_zeros n (a * row_words + p / 64)) (bit_zero (p % 64))
+  | yes l ↦ rw (lt-ltb p row_bits l, get_or-zeros n (a * row_words + p / 64)) (bit_zero (p % 64))
   | no l ↦ let h : row_bits ≤ p = omega arith in rw (le-ltb p row_bits h)
 ]
 

@@ -1,4 +1,6 @@
 // The code of the papers: each parity is the sum of the sources, shifted up by the entries of its row.
+#![tactic(auto)]
+
 ghost use Rattle.std.specs.Prelude.{◌≡◌, length, ◌+◌, ◌≤◌, ◌<◌};
 ghost use Rattle.rows.specs.Rows.{HasRow, AddedTo, Stored};
 ghost use Rattle.table.specs.Limits.{longest};

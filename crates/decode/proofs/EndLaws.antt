@@ -7,7 +7,7 @@ use native.Mathlib.Omega.{arith}
 use native.Mathlib.Decide.{dec_lt}
 use lib.ListN.{length, take}
 use lib.Seq.{take_all}
-use Rattle.bits.specs.Bits.{bit_at, up, Bytes, Tells}
+use Rattle.bits.specs.Bits.{bit_at, Bytes, Tells}
 use Rattle.bits.proofs.SumLaws.{sum_nought}
 use Rattle.bits.proofs.UpLaws.{up_high}
 use Rattle.table.specs.Desk.{Desk, mark, sources_bytes, survivors_bytes}
@@ -20,7 +20,7 @@ use Rattle.rows.proofs.RowLaws.{row_past}
 use Rattle.code.specs.Code.{Bits, sources_of, sum_of, parity, Short}
 use Rattle.code.proofs.CodeLaws.{list_source, sum_of_same}
 use Rattle.walk.specs.Walk.{Gone, Held}
-use Rattle.walk.proofs.ReadLaws.{parity_same, read_by_keeps, only}
+use Rattle.walk.proofs.ReadLaws.{parity_same, only}
 use Rattle.survivors.specs.Packets.{came, came_parity, EncodesTo}
 use Rattle.survivors.specs.Remainders.{marked_of, source_in, sources_in, InBytes, Placed, AddedToRests, NoRest}
 use Rattle.survivors.proofs.RestLaws.{marked_on, marked_off, source_in_lem}

@@ -1,4 +1,6 @@
 // The half of rebuild that touches data: each packet at hand put into its row, and the missing sources uncovered, at once where that can be, else bit by bit.
+#![tactic(auto)]
+
 pub mod solving;
 pub mod steps;
 
@@ -37,7 +39,7 @@ fn uncover(s: Shape, shifts: &[u8; Table::CELLS], rows: &mut [u64]) -> DecodeAns
 }
 
 // How many steps were made; whether they finish all missing sources, and then whether any sources encode to the packets.
-#[derive(Drop)]
+#[derive(Clone, Copy)]
 pub struct ReadAnswer {
     pub count: u64,
     pub whole: bool,

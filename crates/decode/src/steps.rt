@@ -82,7 +82,7 @@ fn take_bit(
 }
 
 // How many steps were made, and whether they finish all missing sources.
-#[derive(Drop)]
+#[derive(Clone, Copy)]
 pub struct DecodeAnswer {
     pub count: u64,
     pub whole: bool,

@@ -1,4 +1,6 @@
 // Encoding all parities; and how long packets are.
+#![tactic(auto)]
+
 ghost use Rattle.std.specs.Prelude.{◌≡◌, ◌+◌, ◌<◌, length};
 ghost use Rattle.bits.specs.Bits.{Tells};
 ghost use Rattle.table.specs.Desk.{sources_bytes, packet_bytes};
@@ -10,7 +12,7 @@ ghost use Rattle.encode.specs.Promise.{EncodedAll, PacketMeasured, ParitiesMeasu
 use table::{Shape, Table};
 
 // A number, and a length in bytes.
-#[derive(Drop)]
+#[derive(Clone, Copy)]
 pub struct LengthAnswer {
     pub number: u64,
     pub length: u64,

@@ -9,7 +9,7 @@ ghost use Rattle.family.specs.Promise.{Judged};
 use table::Table;
 
 // What judge gives: whether differences grow (1 or 0).
-#[derive(Drop)]
+#[derive(Clone, Copy)]
 pub struct JudgeAnswer {
     pub number: u64,
     pub growing: u64,

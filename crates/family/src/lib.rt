@@ -1,4 +1,6 @@
 // The tables of the families, of k sources and m parities; and the judge.
+#![tactic(auto)]
+
 pub mod judge;
 
 ghost use Rattle.std.specs.Prelude.{◌≡◌, ◌++◌, length, ℕ, ◌+◌, ◌*◌, ◌/◌, ◌%◌, ◌≤◌, ◌<◌};

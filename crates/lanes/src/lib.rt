@@ -1,4 +1,6 @@
 // Sixteen stripes at once, for the case of steps: the lanes of words. A bare pair is looked for once a step, and its bit is read in all stripes.
+#![tactic(auto)]
+
 ghost use Rattle.std.specs.Prelude.{◌≡◌, true, ℕ, ◌+◌, ◌*◌, ◌%◌, ◌≤◌, ◌<◌, length};
 ghost use Rattle.bits.specs.Sums.{at};
 ghost use Rattle.bits.specs.Bits.{bit, bit_at, up, part};
@@ -25,7 +27,7 @@ pub const WORDS: usize = Table::SOURCES * SOURCE_WORDS;
 pub const PACKETS: usize = Table::SOURCES + Table::PARITIES;
 
 // How many steps were made, and whether they finish all missing sources.
-#[derive(Drop)]
+#[derive(Clone, Copy)]
 pub struct Steps {
     pub count: u64,
     pub whole: bool,

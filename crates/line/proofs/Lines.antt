@@ -7,7 +7,7 @@ use native.Mathlib.Omega.{arith}
 use lib.ListN.{length, drop, length-drop}
 use lib.Seq.{drop-length}
 use Rattle.table.specs.Limits.{max_k, max_m, max_length}
-use Rattle.table.specs.Checks.{Checks, Checked, Outside, size_checks, length_checks}
+use Rattle.table.specs.Checks.{Checked, Outside, size_checks, length_checks}
 use Rattle.table.proofs.CheckLaws.{numbered_by, goes, zero_checked}
 use Rattle.text.specs.Text.{space, line_feed}
 use Rattle.text.specs.Numerals.{numeral}

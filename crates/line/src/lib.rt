@@ -1,4 +1,6 @@
 // The line that the class sheet reads: exactly one, `k m L`.
+#![tactic(auto)]
+
 ghost use Rattle.std.specs.Prelude.{◌≡◌, ◌≤◌, ◌<◌, length};
 ghost use Rattle.line.specs.Reading.{DigitAt, NumberAt, TokenAt};
 ghost use Rattle.line.specs.Promise.{line_checks, sheet_checks, LineRead};
@@ -6,7 +8,7 @@ ghost use Rattle.line.specs.Promise.{line_checks, sheet_checks, LineRead};
 use table::Number;
 
 // What the line gives: its number, and with number 0 k, m and the length.
-#[derive(Drop)]
+#[derive(Clone, Copy)]
 pub struct Line {
     pub number: u64,
     pub k: u64,
@@ -15,7 +17,7 @@ pub struct Line {
 }
 
 // A number of the line, and the place after it.
-#[derive(Drop)]
+#[derive(Clone, Copy)]
 struct Token {
     value: u64,
     next: usize,

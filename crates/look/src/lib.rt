@@ -1,4 +1,6 @@
 // Looking: one source for reading, as a part of the survivors or of the rebuilt sources.
+#![tactic(auto)]
+
 ghost use Rattle.std.specs.Prelude.{◌≡◌, length, ◌+◌, ◌≤◌, ◌<◌};
 ghost use Rattle.bits.specs.Sums.{count};
 ghost use Rattle.table.specs.Limits.{max_k};
@@ -11,7 +13,7 @@ ghost use Rattle.look.specs.Promise.{LookedAt, Looked, PartOf};
 use table::{Number, Shape, Table};
 
 // Where a source stands: buffer 1 is the survivors', 2 the rebuilt one; start and length are in bytes.
-#[derive(Drop)]
+#[derive(Clone, Copy)]
 pub struct LookAnswer {
     pub number: u64,
     pub buffer: u64,

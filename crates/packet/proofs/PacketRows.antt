@@ -18,7 +18,7 @@ use Rattle.table.proofs.Bounds.{Bounded, parity_fits}
 use Rattle.table.proofs.PacketLaws.{source_packet_bytes}
 use Rattle.rows.specs.Rows.{row_in, Stored}
 use Rattle.rows.proofs.ClearFromLaws.{one_shl}
-use Rattle.code.specs.Code.{Bits, sum_of, sources_of, packet_of, Short}
+use Rattle.code.specs.Code.{sum_of, sources_of, packet_of, Short}
 use Rattle.code.proofs.CodeLaws.{sum_of_same, by_kind, packet_size, packet-bytes, packet_source_bits, packet_parity_bits}
 use Rattle.survivors.specs.Remainders.{marked_of, source_in, sources_in, InBytes, AddedToRests, NoRest}
 use Rattle.survivors.proofs.RestLaws.{marked_on}

@@ -1,4 +1,6 @@
 // Any packet, from any k packets at hand. Where these are the sources it is encoded from them; else from the sources that are read back.
+#![tactic(auto)]
+
 ghost use Rattle.std.specs.Prelude.{◌≡◌, true, length, ℕ, ◌+◌, ◌<◌};
 ghost use Rattle.table.specs.Desk.{mark, packet_bytes};
 ghost use Rattle.table.specs.Table.{Within, Ready, Reaches, Survivors, desk_of};

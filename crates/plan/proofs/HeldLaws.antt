@@ -2,12 +2,10 @@
 use mathlib.Core.Path.{◌≡◌, sym, ap, ◌∙◌}
 use mathlib.Core.Bool.{not}
 use mathlib.Core.List.{List, []}
-use Prim.Native.Nat.{ℕ, zero, suc, ◌+◌, ◌-◌, ◌/◌, ◌%◌, ◌^◌, ◌≤◌, ◌<◌}
+use Prim.Native.Nat.{ℕ, ◌+◌, ◌/◌, ◌^◌, ◌≤◌, ◌<◌}
 use native.Mathlib.Omega.{arith}
-use native.Mathlib.Nat.{div-one, pow-succ', div-le_self}
-use native.Mathlib.Decide.{ℕ_discrete}
-use borrow.Author.Tests.{eq-eqb, ne_eqb, not-false}
-use lib.Dec.{eqb}
+use native.Mathlib.Nat.{div-le_self}
+use borrow.Author.Tests.{not-false}
 use Rattle.table.specs.Limits.{max_m}
 use Rattle.table.specs.declared.Shape.{Shape}
 use Rattle.table.specs.Desk.{mark}

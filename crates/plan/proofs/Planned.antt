@@ -6,7 +6,7 @@ use Prim.Native.Nat.{ℕ, ◌+◌, ◌-◌, ◌*◌, ◌≤◌, ◌<◌}
 use native.Mathlib.Omega.{arith}
 use native.Mathlib.Nat.{mul-le-mul_right}
 use native.Mathlib.Decide.{ℕ_discrete}
-use borrow.Author.Tests.{not_true}
+use borrow.Author.Tests.{not-true}
 use lib.ListN.{length}
 use Rattle.bits.specs.Sums.{at, count}
 use Rattle.table.specs.Limits.{max_shift}
@@ -74,7 +74,7 @@ module _ (D : Desk) (way n : ℕ) (rows columns rises : List ℕ) (P : Planned D
   pub planned_gone : count k (gone D) ≡ n
   planned_gone =
       listed_count k (gone D) columns n
-      (listed_same (Gone D) _ columns n (λ b h. (h.0, ap not h.1)) (λ b h. (h.0, not_true _ h.1)) P.gone)
+      (listed_same (Gone D) _ columns n (λ b h. (h.0, ap not h.1)) (λ b h. (h.0, not-true _ h.1)) P.gone)
 
   pub planned_held : count m (λ a. present (k + a)) ≡ n
   planned_held = listed_count m (λ a. present (k + a)) rows n P.held.listed

@@ -1,4 +1,6 @@
 // Whether the missing sources can be solved for at once: as many parities are at hand, and their shifts are even.
+#![tactic(auto)]
+
 ghost use Rattle.std.specs.Prelude.{◌≡◌, true, false, [], ◌*◌, ◌≤◌, ◌<◌};
 ghost use Rattle.table.specs.Limits.{max_k, max_m, max_shift};
 ghost use Rattle.table.specs.Table.{Within, desk_of};
@@ -26,14 +28,14 @@ impl Way {
 }
 
 // The parities at hand in order, then m; and how many they are.
-#[derive(Drop)]
+#[derive(Clone, Copy)]
 pub struct Held {
     pub rows: [u8; PARITIES],
     pub count: u8,
 }
 
 // The way in which shifts are even, the parities at hand, and by how much each column (or row) rises more than the first.
-#[derive(Drop)]
+#[derive(Clone, Copy)]
 pub struct Plan {
     pub way: u8,
     pub rows: [u8; PARITIES],
@@ -41,14 +43,14 @@ pub struct Plan {
 }
 
 // By how much each column rises more than the first, and whether all rise evenly.
-#[derive(Drop)]
+#[derive(Clone, Copy)]
 struct Rises {
     rises: [u8; Table::SOURCES],
     even: bool,
 }
 
 // The same, and in which way.
-#[derive(Drop)]
+#[derive(Clone, Copy)]
 struct EvenWay {
     way: u8,
     rises: [u8; Table::SOURCES],

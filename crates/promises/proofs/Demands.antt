@@ -42,7 +42,7 @@ use Rattle.rebuild.specs.Stages.{decode_checks}
 use Rattle.rebuild.specs.Promise.{rebuild_checks, Rebuilt}
 use Rattle.survivors.proofs.CameLaws.{encodes_bits, encoded_not_stray}
 use Rattle.rebuild.proofs.OneAnswer.{one_source, rebuilt_shaped}
-use Rattle.logbook.specs.Promise.{log_checks}
+use Rattle.whole_log.specs.Promise.{log_checks}
 use Rattle.packet.specs.Promise.{wanted_checks}
 use Rattle.packet.proofs.CheckParts.{decoding_decides}
 use Rattle.look.specs.Promise.{look_checks}

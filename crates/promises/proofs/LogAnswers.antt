@@ -13,8 +13,8 @@ use Rattle.table.specs.Checks.{Checked, shape_checks, stripes_checks, marks_chec
 use Rattle.table.proofs.CheckLaws.{numbered_by, goes, exactly_long}
 use Rattle.table.proofs.ShapeLaws.{marked_parts}
 use Rattle.table.proofs.Taken.{inside_b, taken_b, stripes_taken, taken_checked}
-use Rattle.logbook.specs.Stages.{log_lengths_checks}
-use Rattle.logbook.specs.Promise.{LogRebuilt}
+use Rattle.whole_log.specs.Stages.{log_lengths_checks}
+use Rattle.whole_log.specs.Promise.{LogRebuilt}
 use Rattle.promises.specs.Logs.{log_shape_and_lengths, StripeRebuilt}
 use Rattle.promises.proofs.Logs.{one_rebuild_a_stripe_is_the_log}
 

@@ -18,12 +18,12 @@ use Rattle.survivors.proofs.CameLaws.{encoded_not_stray}
 use Rattle.rebuild.specs.Stages.{decode_checks}
 use Rattle.rebuild.specs.Promise.{rebuild_checks}
 use Rattle.stripe.specs.Stripes.{AtStripe, Good, BadAt, GoodTold, log_decode_checks}
-use Rattle.logbook.specs.Stages.{log_lengths_checks}
-use Rattle.logbook.specs.Promise.{log_checks, LogRebuilt}
+use Rattle.whole_log.specs.Stages.{log_lengths_checks}
+use Rattle.whole_log.specs.Promise.{log_checks, LogRebuilt}
 use Rattle.stripe.proofs.BadLaws.{at-stripe_some, at-stripe_not_eight, at-stripe_or_not, bad_numbered, good_numbered}
-use Rattle.logbook.proofs.PartLaws.{part_length}
-use Rattle.logbook.proofs.CheckParts.{log_finishes}
-use Rattle.logbook.proofs.OneAnswer.{some_good}
+use Rattle.whole_log.proofs.PartLaws.{part_length}
+use Rattle.whole_log.proofs.CheckParts.{log_finishes}
+use Rattle.whole_log.proofs.OneAnswer.{some_good}
 use Rattle.promises.specs.Demands.{shape_and_lengths}
 use Rattle.promises.specs.Logs
 use Rattle.promises.specs.Logs.{log_shape_and_lengths, StripeRebuilt, OneRebuildAStripe}

@@ -21,9 +21,9 @@ use Rattle.steps.proofs.OneAnswer.{one_checked}
 use Rattle.rebuild.specs.Stages.{decode_checks, rebuild_lengths_checks, rebuild_lent_checks}
 use Rattle.rebuild.specs.Promise.{Rebuilt}
 use Rattle.rebuild.proofs.OneAnswer.{one_rebuilt}
-use Rattle.logbook.specs.Stages.{log_striped_checks}
-use Rattle.logbook.specs.Promise.{log_checks, LogRebuilt}
-use Rattle.logbook.proofs.OneAnswer.{one_log}
+use Rattle.whole_log.specs.Stages.{log_striped_checks}
+use Rattle.whole_log.specs.Promise.{log_checks, LogRebuilt}
+use Rattle.whole_log.proofs.OneAnswer.{one_log}
 use Rattle.packet.specs.Promise.{PacketMade}
 use Rattle.packet.proofs.CheckParts.{made_parts}
 use Rattle.packet.proofs.OneAnswer.{one_packet_made}

@@ -14,7 +14,7 @@ use Rattle.walk.specs.Ends.{Finishes}
 use Rattle.steps.specs.Promise.{step_list_checks, StepsChecked}
 use Rattle.survivors.specs.Packets.{EncodesTo, came_source, came_parity}
 use Rattle.rebuild.specs.Promise.{rebuild_checks, Rebuilt}
-use Rattle.logbook.specs.Promise.{log_checks, LogRebuilt}
+use Rattle.whole_log.specs.Promise.{log_checks, LogRebuilt}
 use Rattle.packet.specs.Promise.{wanted_checks, PacketMade}
 use Rattle.look.specs.Promise.{look_checks, LookedAt}
 use Rattle.card.specs.Block.{max_information, block_checks, IBlock}

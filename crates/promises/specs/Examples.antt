@@ -6,7 +6,7 @@ use Rattle.encode.specs.Promise.{EncodedAll, PacketMeasured, ParitiesMeasured}
 use Rattle.walk.specs.Promise.{Walked}
 use Rattle.steps.specs.Promise.{StepsChecked}
 use Rattle.rebuild.specs.Promise.{Rebuilt}
-use Rattle.logbook.specs.Promise.{LogRebuilt}
+use Rattle.whole_log.specs.Promise.{LogRebuilt}
 use Rattle.packet.specs.Promise.{PacketMade}
 use Rattle.card.specs.Promise.{BlockTaken}
 use Rattle.chain.specs.Promise.{BlocksRead, BlocksWritten}

@@ -4,8 +4,8 @@ use Rattle.bits.specs.Bits.{part}
 use Rattle.table.specs.Desk.{desk, sources_bytes, survivors_bytes}
 use Rattle.table.specs.Checks.{Checks, Checked, shape_checks, stripes_checks, marks_checks}
 use Rattle.rebuild.specs.Promise.{Rebuilt}
-use Rattle.logbook.specs.Stages.{log_lengths_checks}
-use Rattle.logbook.specs.Promise.{LogRebuilt}
+use Rattle.whole_log.specs.Stages.{log_lengths_checks}
+use Rattle.whole_log.specs.Promise.{LogRebuilt}
 
 -- the checks before 8: 1 2 3 25 6 7 4 5
 abbrev pub log_shape_and_lengths : ℕ → ℕ → ℕ → List ℕ → ℕ → ℕ → List ℕ → List ℕ → Checks

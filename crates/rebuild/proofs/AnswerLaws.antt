@@ -1,19 +1,18 @@
 -- From what the data half gives to the numbers 8, 9 and 10. Assumes nothing.
-use mathlib.Core.Path.{◌≡◌, refl, sym, ap, ◌∙◌, subst}
+use mathlib.Core.Path.{◌≡◌, refl, sym, ◌∙◌, subst}
 use mathlib.Core.Logic.{inl, inr}
 use mathlib.Core.Bool.{Bool, true, false}
 use mathlib.Core.List.{List}
-use Prim.Native.Nat.{ℕ, ◌<◌}
+use Prim.Native.Nat.{ℕ}
 use native.Mathlib.Omega.{arith}
 use lib.ListN.{length}
 use lib.Seq.{take_all}
 use Rattle.table.specs.Desk.{Desk, sources_bytes}
-use Rattle.table.specs.Checks.{Answered}
 use Rattle.walk.specs.Ends.{Finishes}
 use Rattle.walk.proofs.Ends.{ended_finishes, finishes_ended}
 use Rattle.survivors.specs.Packets.{Stray, EncodesTo}
 use Rattle.decode.specs.Data.{ReadBack}
-use Rattle.rebuild.specs.Stages.{StepsTold, SourcesFound, decode_checks, Recovered, RebuildMade}
+use Rattle.rebuild.specs.Stages.{StepsTold, SourcesFound, Recovered, RebuildMade}
 
 -- a number that is not 8 tells no steps
 pub untold : (D : Desk) (number count : ℕ) → (number ≡ 8 → ⊥) → count ≡ 0 → StepsTold D number count

@@ -1,4 +1,6 @@
 // Rebuilding: the sources read back from any k packets.
+#![tactic(auto)]
+
 ghost use Rattle.std.specs.Prelude.{◌≡◌, [], length, ℕ, ◌≤◌};
 ghost use Rattle.rows.specs.Rows.{row_in};
 ghost use Rattle.table.specs.Limits.{max_k, max_length};
@@ -11,7 +13,7 @@ ghost use Rattle.rebuild.specs.Promise.{Rebuilt};
 use table::{Number, Shape, Table};
 
 // What rebuild gives: the count of steps, with 8 those made before the stall.
-#[derive(Drop)]
+#[derive(Clone, Copy)]
 pub struct RebuildAnswer {
     pub number: u64,
     pub count: u64,

@@ -6,7 +6,7 @@ use lib.Bits.{bit_xor}
 use Rattle.bits.specs.Sums.{at}
 use Rattle.bits.specs.Bits.{bit, up}
 use Rattle.bits.proofs.BitLaws.{bit_lt, bit-xor, bit_shr, bit_mod, bit_high, bit_beside, bit_ext}
-use Rattle.bits.proofs.UpLaws.{up_at, up_low, up_from, up_same, up_up, up_lt}
+use Rattle.bits.proofs.UpLaws.{up_low, up_from, up_same, up_up, up_lt}
 use Rattle.rows.specs.Rows.{row_bits, row_words, row_in, HasRow, Halved}
 use Rattle.rows.specs.Words.{Twice, EachWord}
 use Rattle.rows.proofs.RowLaws.{row_at, SetTo, set_none, set_more, AddedBelow, added_here, added_other, add_more, add_all}

@@ -1,9 +1,9 @@
 -- Laws of rows in words: one word set, and a row set word by word. Assumes nothing.
-use Rattle.std.proofs.Common.{◌≡◌, ℕ, ◌+◌, ◌-◌, ◌*◌, ◌/◌, ◌%◌, ◌^◌, ◌<◌, ◌≤◌, ◌≢◌, List, length, set, sym, refl, ap, ◌∙◌, ap₂, arith, get_or-set_other, get_or-set_same, le-ltb, lt-ltb}
+use Rattle.std.proofs.Common.{◌≡◌, ℕ, ◌+◌, ◌*◌, ◌/◌, ◌%◌, ◌<◌, ◌≤◌, ◌≢◌, List, set, sym, refl, ap, ◌∙◌, ap₂, arith, get_or-set_other, get_or-set_same, le-ltb, lt-ltb}
 use native.Mathlib.Decide.{dec_lt, ℕ_discrete}
 use lib.Bits.{bit_xor}
-use Rattle.bits.specs.Sums.{at, one_at}
-use Rattle.bits.specs.Bits.{bit, up}
+use Rattle.bits.specs.Sums.{at}
+use Rattle.bits.specs.Bits.{bit}
 use Rattle.bits.proofs.SumLaws.{one_at_same, one_at_other}
 use Rattle.bits.proofs.BitLaws.{bit_lt, bit-xor}
 use Rattle.rows.specs.Rows.{row_bits, row_words, row_in, HasRow, Became, AddedTo}

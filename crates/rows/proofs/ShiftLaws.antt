@@ -1,9 +1,9 @@
 -- A row shifted up, word by word: what stays in a word, and what is carried into the next. Assumes nothing.
-use Rattle.std.proofs.Common.{◌≡◌, ℕ, ◌+◌, ◌-◌, ◌*◌, ◌/◌, ◌%◌, ◌^◌, ◌<◌, ◌≤◌, cond, ltb, List, sym, ap, ◌∙◌, ap₂, arith, le-ltb, lt-ltb}
+use Rattle.std.proofs.Common.{◌≡◌, ℕ, ◌+◌, ◌-◌, ◌*◌, ◌%◌, ◌^◌, ◌<◌, ◌≤◌, cond, ltb, sym, ap, ◌∙◌, ap₂, arith, le-ltb, lt-ltb}
 use native.Mathlib.Decide.{dec_lt}
 use lib.Bits.{bit_xor}
 use Rattle.bits.specs.Bits.{bit, up}
-use Rattle.bits.proofs.BitLaws.{bit_lt, bit-xor, bit_shr, bit_shl, bit_shl_low, bit_mod, bit_high, bit_zero}
+use Rattle.bits.proofs.BitLaws.{bit-xor, bit_shl, bit_shl_low, bit_mod, bit_high, bit_zero}
 use Rattle.bits.proofs.UpLaws.{up_low, up_from, up_lt}
 
 -- a word shifted up, cut at its 64 bits

@@ -1,4 +1,6 @@
 // Rows of bits in words of 64, one row after another: shifted, added, divided, made of bytes and made into bytes.
+#![tactic(auto)]
+
 pub mod bytes;
 pub mod clear;
 pub mod divide;

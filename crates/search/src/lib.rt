@@ -1,4 +1,6 @@
 // The search for a bare pair among the missing sources only: from one parity at hand to the next, and in each over the list of the missing.
+#![tactic(auto)]
+
 ghost use Rattle.std.specs.Prelude.{◌≡◌, false, ◌≤◌, ◌<◌};
 ghost use Rattle.bits.specs.Sums.{at};
 ghost use Rattle.table.specs.Limits.{max_k};
@@ -14,7 +16,7 @@ use walk::Pair;
 pub const COLUMNS: usize = Table::SOURCES + 1;
 
 // The missing sources in order, then k; and how many they are.
-#[derive(Drop)]
+#[derive(Clone, Copy)]
 pub struct Missing {
     pub columns: [u8; COLUMNS],
     pub count: u8,
@@ -22,7 +24,7 @@ pub struct Missing {
 
 // The lowest next bit of a row so far: its place, and whose it is. At first the place is above all others; the source is k then, and where two share the place.
 // It is no `walk::Low`, which starts at no place: there k says that none was seen yet, and a source above k that two share the place.
-#[derive(Drop)]
+#[derive(Clone, Copy)]
 struct Leader {
     place: u64,
     source: usize,

@@ -1,4 +1,6 @@
 // Rows solved in place for the unknowns that they are made of. Bits are a polynomial in z; `rises` has an exponent v[b] for each unknown, and w[b] is z ^ v[b].
+#![tactic(auto)]
+
 ghost use Rattle.std.specs.Prelude.{◌-◌, ◌≤◌, ◌<◌};
 ghost use Rattle.bits.specs.Sums.{at};
 ghost use Rattle.table.specs.Limits.{max_shift};

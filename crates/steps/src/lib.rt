@@ -1,4 +1,6 @@
 // Lists of steps that were written down: whether each is bare when its turn comes, and all missing sources are whole at the end.
+#![tactic(auto)]
+
 ghost use Rattle.std.specs.Prelude.{◌≡◌, ◌≤◌, length};
 ghost use Rattle.bits.specs.Sums.{at};
 ghost use Rattle.bits.specs.Bits.{Tells};
@@ -10,7 +12,7 @@ ghost use Rattle.steps.specs.Promise.{Followed, StepsChecked};
 use table::{Number, Shape, Table};
 
 // What check steps gives: its number, and the place of a refusal: the first bad step, from 1, or the length of a list that ends early.
-#[derive(Drop)]
+#[derive(Clone, Copy)]
 pub struct StepsAnswer {
     pub number: u64,
     pub place: u64,

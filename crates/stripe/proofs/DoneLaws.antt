@@ -1,11 +1,10 @@
 -- Stripe after stripe: those that are done, and what the first bad one, or the end, decides. Assumes nothing.
 use mathlib.Core.Path.{◌≡◌, refl, sym, ap, ◌∙◌, subst}
 use mathlib.Core.Logic.{inl, inr}
-use mathlib.Core.List.{List, ◌++◌}
+use mathlib.Core.List.{List}
 use Prim.Native.Nat.{ℕ, ◌+◌, ◌-◌, ◌*◌, ◌≤◌, ◌<◌}
 use native.Mathlib.Omega.{arith}
 use native.Mathlib.Decide.{ℕ_discrete, dec_lt}
-use native.Mathlib.Nat.{mul-le-mul_right}
 use lib.ListN.{length, take, drop}
 use lib.Seq.{drop-drop}
 use Rattle.bits.specs.Bits.{part}
@@ -15,7 +14,7 @@ use Rattle.table.specs.Checks.{Checked}
 use Rattle.walk.specs.Ends.{Finishes}
 use Rattle.survivors.specs.Packets.{Stray, EncodesTo, packets_checks, stripe}
 use Rattle.rebuild.specs.Stages.{decode_checks, RebuildMade}
-use Rattle.stripe.specs.Stripes.{AtStripe, Good, BadAt, log_decode_checks, GoodTold, LogSteps, GoodWritten, LogAnswered}
+use Rattle.stripe.specs.Stripes.{AtStripe, Good, BadAt, log_decode_checks, GoodWritten, LogAnswered}
 use Rattle.stripe.proofs.BadLaws.{at-stripe_some, no_other_bad, good_numbered}
 use Rattle.stripe.proofs.LaidLaws.{laid, laid_same, laid-length, laid_here, laid_before, laid-after}
 

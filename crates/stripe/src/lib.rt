@@ -1,4 +1,6 @@
 // One stripe of a logbook rebuilt, and stripe after stripe up to the first bad one: by a plan that was found, or out of the lanes.
+#![tactic(auto)]
+
 ghost use Rattle.std.specs.Prelude.{◌≡◌, true, List, length, ℕ, ◌*◌, ◌≤◌, ◌<◌};
 ghost use Rattle.table.specs.Limits.{max_stripes};
 ghost use Rattle.table.specs.Desk.{sources_bytes, survivors_bytes};
@@ -19,7 +21,7 @@ use table::{Number, Shape, Table};
 const SOURCES_BYTES: usize = Table::SOURCES * Table::MAX_BYTES;
 
 // What rebuild log gives: how many stripes are good, and the count of steps, which is one for all stripes.
-#[derive(Drop)]
+#[derive(Clone, Copy)]
 pub struct LogAnswer {
     pub number: u64,
     pub good: u64,

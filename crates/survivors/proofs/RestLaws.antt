@@ -1,7 +1,6 @@
 -- What is added to the rows of the parities at hand. Assumes nothing.
 use mathlib.Core.Path.{◌≡◌, refl, sym, ap, ◌∙◌}
-use mathlib.Core.Logic.{◌≢◌}
-use mathlib.Core.Bool.{Bool, true, false, cond}
+use mathlib.Core.Bool.{true, false, cond}
 use mathlib.Core.List.{List}
 use Prim.Native.Nat.{ℕ, suc, ◌+◌, ◌-◌, ◌*◌, ◌/◌, ◌%◌, ◌^◌, ◌≤◌, ◌<◌}
 use native.Mathlib.Omega.{arith}
@@ -9,7 +8,7 @@ use native.Mathlib.Nat.{add-zero}
 use borrow.Author.Tests.{lt-ltb}
 use Rattle.bits.specs.Sums.{one_at, sum}
 use Rattle.bits.specs.Bits.{up}
-use Rattle.bits.proofs.SumLaws.{one_at_times, one_at_other, mod_more, sum_nought, sum_add}
+use Rattle.bits.proofs.SumLaws.{one_at_times, mod_more, sum_nought, sum_add}
 use Rattle.bits.proofs.UpLaws.{up_same, up-noughts}
 use Rattle.table.specs.Desk.{Desk, mark}
 use Rattle.table.specs.Table.{NextMark, desk_of}

@@ -10,7 +10,7 @@ use lib.Dec.{lit<}
 use lib.ListN.{length, replicate}
 use Rattle.bits.specs.Sums.{pick, sum}
 use Rattle.bits.specs.Bits.{bit, bit_at, Bytes, slice, part, bytes_of, joined}
-use Rattle.bits.proofs.BitLaws.{bit_zero, get_d_zeros, bit_at_past, bytes_ext}
+use Rattle.bits.proofs.BitLaws.{bit_zero, get_or-zeros, bit_at_past, bytes_ext}
 use Rattle.bits.proofs.SliceLaws.{slice-bit, slice_past, slice-length, slice_bytes, part_in}
 use Rattle.bits.proofs.ByteLaws.{place, bytes_of-length, bytes_of_bytes, bytes_of-bit, joined_length, part-joined, joined_parts}
 use Rattle.table.specs.Desk.{Desk, sources_bytes}
@@ -26,7 +26,7 @@ use Rattle.survivors.proofs.RestLaws.{source_in_lem}
 pub no_rows : (n i p : ℕ) → row_in (replicate n 0) i p ≡ 0
 unfolding row_in
 no_rows n i p = elim (dec_lt p row_bits) [
-  | yes l ↦ rw (lt-ltb p row_bits l) (ap (λ x. bit x (p % 64)) (get_d_zeros n (i * row_words + p / 64)) ∙ bit_zero (p % 64))
+  | yes l ↦ rw (lt-ltb p row_bits l) (ap (λ x. bit x (p % 64)) (get_or-zeros n (i * row_words + p / 64)) ∙ bit_zero (p % 64))
   | no l ↦ rw (le-ltb p row_bits (omega arith))
 ]
 

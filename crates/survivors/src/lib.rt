@@ -1,4 +1,6 @@
 // The packets that came: each in a row of its own, the sources taken out of the rows of the parities at hand, and a stray packet found.
+#![tactic(auto)]
+
 ghost use Rattle.std.specs.Prelude.{◌≡◌, length, ℕ, ◌+◌, ◌/◌, ◌^◌, ◌<◌};
 ghost use Rattle.bits.specs.Bits.{Tells};
 ghost use Rattle.rows.specs.Rows.{row_bits, row_words, row_in, AddedTo};

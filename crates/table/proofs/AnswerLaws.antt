@@ -1,6 +1,6 @@
 -- Laws of answers: refused by the first checks, decided by those that are left, and one answer only. Assumes nothing.
 use mathlib.Core.Path.{◌≡◌, sym, ◌∙◌, subst}
-use mathlib.Core.List.{List, ◌++◌}
+use mathlib.Core.List.{◌++◌}
 use Prim.Native.Nat.{ℕ}
 use native.Mathlib.Decide.{ℕ_discrete}
 use Rattle.table.specs.Checks.{Checks, Checked, Answered}

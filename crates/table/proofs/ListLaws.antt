@@ -45,32 +45,38 @@ in_order_rest : (n : ℕ) (ns list : List ℕ) → InOrder (n ∷ ns) list → I
 in_order_rest n [] list x = tt
 in_order_rest n (b ∷ ns) (y ∷ list) (inl x) = x.1
 in_order_rest n (b ∷ ns) (y ∷ list) (inr x) = inr (in_order_rest n (b ∷ ns) list x)
+in_order_rest n (b ∷ ns) [] x = elim x [ ]
 
 -- the first alone
 in_order_first : (n : ℕ) (ns list : List ℕ) → InOrder (n ∷ ns) list → InOrder (n ∷ []) list
 in_order_first n ns (y ∷ list) (inl x) = inl (x.0, tt)
 in_order_first n ns (y ∷ list) (inr x) = inr (in_order_first n ns list x)
+in_order_first n ns [] x' = elim x' [ ]
 
 -- any of them alone
 in_order_any : (ns list : List ℕ) → InOrder ns list → (n : ℕ) → Among n ns → InOrder (n ∷ []) list
 in_order_any (b ∷ ns) list x n (inl e) = in_order_first n ns list (subst (λ (i : ℕ). InOrder (i ∷ ns) list) (sym e) x)
 in_order_any (b ∷ ns) list x n (inr m) = in_order_any ns list (in_order_rest b ns list x) n m
+in_order_any [] list x n x3 = elim x3 [ ]
 
 -- the first and any other
 in_order_pair : (a : ℕ) (ns list : List ℕ) → InOrder (a ∷ ns) list → (n : ℕ) → Among n ns → InOrder (a ∷ n ∷ []) list
 in_order_pair a ns (y ∷ list) (inl x) n m = inl (x.0, in_order_any ns (y ∷ list) x.1 n m)
 in_order_pair a ns (y ∷ list) (inr x) n m = inr (in_order_pair a ns list x n m)
+in_order_pair a ns [] x'' n m = elim x'' [ ]
 
 -- the first twice
 in_order_twice : (a : ℕ) (ns list : List ℕ) → InOrder (a ∷ ns) list → InOrder (a ∷ a ∷ []) list
 in_order_twice a ns (y ∷ list) (inl x) = inl (x.0, inl (x.0, tt))
 in_order_twice a ns (y ∷ list) (inr x) = inr (in_order_twice a ns list x)
+in_order_twice a ns [] x' = elim x' [ ]
 
 -- ---- the number that checks give
 
 refuses_among : (cs : Checks) (n : ℕ) → Refuses cs n → Among n (numbers_of cs)
 refuses_among (c ∷ cs) n (inl x) = inl x.1
 refuses_among (c ∷ cs) n (inr x) = inr (refuses_among cs n x)
+refuses_among [] n x' = elim x' [ ]
 
 -- none refuses and it is 0; or a check of that number refuses, and none that refuses stands before it
 pub number_in_order : (list : List ℕ) (cs : Checks) → InOrder (numbers_of cs) list → (n : ℕ) → Checked cs n
@@ -107,6 +113,7 @@ Distinct (x ∷ xs) = (Among x xs → ⊥) × Distinct xs
 in_order_head : (a : ℕ) (ns list : List ℕ) → InOrder (a ∷ ns) list → Among a list
 in_order_head a ns (y ∷ list) (inl x) = inl x.0
 in_order_head a ns (y ∷ list) (inr x) = inr (in_order_head a ns list x)
+in_order_head a ns [] x' = elim x' [ ]
 
 in_order_second : (a b : ℕ) (list : List ℕ) → InOrder (a ∷ b ∷ []) list → Among b list
 in_order_second a b list x = in_order_head b [] list (in_order_rest a (b ∷ []) list x)
@@ -117,6 +124,7 @@ one_way (y ∷ list) d a b (inl x) (inl z) = x.0 ∙ sym z.0
 one_way (y ∷ list) d a b (inl x) (inr z) = absurd (d.0 (subst (λ (i : ℕ). Among i list) x.0 (in_order_second b a list z)))
 one_way (y ∷ list) d a b (inr x) (inl z) = absurd (d.0 (subst (λ (i : ℕ). Among i list) z.0 (in_order_second a b list x)))
 one_way (y ∷ list) d a b (inr x) (inr z) = one_way list d.1 a b x z
+one_way [] d a b x3 _ = elim x3 [ ]
 
 abbrev among_b : ℕ → List ℕ → Bool
 among_b n [] = false
@@ -124,6 +132,7 @@ among_b n (x ∷ xs) = eqb n x || among_b n xs
 
 among_told : (n : ℕ) (xs : List ℕ) → Among n xs → among_b n xs ≡ true
 among_told n (x ∷ xs) (inl e) = ap (λ (v : Bool). v || among_b n xs) (eq-eqb n x e)
+among_told n [] x' = elim x' [ ]
 among_told n (x ∷ xs) (inr m) = ap (λ (v : Bool). eqb n x || v) (among_told n xs m) ∙ or_true (eqb n x)
   where
     or_true : (v : Bool) → (v || true) ≡ true

@@ -1,6 +1,6 @@
 -- What lies on the desk: k sources, m parities, the shift table and the packets at hand; and what follows from them, the bits, the bytes and the place of each packet.
 -- Sources, parities and packets are counted from 0: packets 0 to k − 1 are the sources, k to k + m − 1 the parities.
-use Rattle.std.specs.Prelude.{Bool, true, false, cond, List, ℕ, zero, suc, ◌+◌, ◌-◌, ◌*◌, ◌/◌, ◌%◌, ◌^◌, ◌<◌, leb, ltb, eqb}
+use Rattle.std.specs.Prelude.{Bool, cond, List, ℕ, zero, suc, ◌+◌, ◌-◌, ◌*◌, ◌/◌, ◌%◌, ◌^◌, ◌<◌, leb, ltb, eqb}
 use Rattle.bits.specs.Sums.{pick, at, sum}
 
 pub record Desk : Type 0 where

@@ -1,5 +1,5 @@
 -- The shapes and tables of the code, and what they stand for.
-use Rattle.std.specs.Prelude.{◌≡◌, Bool, true, false, cond, not, ◌&&◌, List, ℕ, ◌+◌, ◌*◌, ◌/◌, ◌%◌, ◌^◌, ◌≤◌, ◌<◌, ltb, length}
+use Rattle.std.specs.Prelude.{◌≡◌, Bool, cond, not, ◌&&◌, List, ℕ, ◌+◌, ◌*◌, ◌/◌, ◌%◌, ◌^◌, ◌≤◌, ◌<◌, ltb, length}
 use Rattle.bits.specs.Sums.{at}
 use Rattle.table.specs.Limits.{max_k, max_m, max_length, max_shift, cells}
 use Rattle.table.specs.Desk.{Desk, entry, mark, source_bits, source_bytes, reach, survivors_bytes}

@@ -1,4 +1,6 @@
 // The shift table and its families, the shape that all calls share, and the list of numbers.
+#![tactic(auto)]
+
 mod families;
 pub mod packets;
 
@@ -10,7 +12,7 @@ ghost use Rattle.table.specs.Table.{Within, Holds, RowLaid, OfFamily, house_cell
 ghost use Rattle.table.specs.Checks.{Checked, size_checks, table_checks};
 
 // A shift table: k columns and m rows, its shifts laid out eight to a row as in the full sheet.
-#[derive(Drop)]
+#[derive(Clone, Copy)]
 pub struct Table {
     pub k: usize,
     pub m: usize,
@@ -18,7 +20,7 @@ pub struct Table {
 }
 
 // What all calls share: k sources of so many bytes, m parities, and the marks of the packets at hand.
-#[derive(Drop)]
+#[derive(Clone, Copy)]
 pub struct Shape {
     pub k: usize,
     pub m: usize,
@@ -129,7 +131,7 @@ impl Family {
 }
 
 // The limits, for the proof that the definitions state the same.
-#[derive(Drop)]
+#[derive(Clone, Copy)]
 pub struct Limits {
     pub sources: u64,
     pub parities: u64,

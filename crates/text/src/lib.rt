@@ -1,4 +1,6 @@
 // Text at the front of a lent buffer, one part behind another; numbers as decimal text.
+#![tactic(auto)]
+
 ghost use Rattle.std.specs.Prelude.{◌≡◌, [], ◌∷◌, ◌+◌, ◌≤◌, ◌<◌, length, drop};
 ghost use Rattle.text.specs.Text.{PutAt};
 ghost use Rattle.text.specs.Numerals.{numeral, max_digits};
@@ -7,7 +9,7 @@ ghost use Rattle.text.specs.Numerals.{numeral, max_digits};
 const MAX_DIGITS: usize = 20;
 
 // The digits of a number, from start on.
-#[derive(Drop)]
+#[derive(Clone, Copy)]
 struct Digits {
     start: usize,
     text: [u8; MAX_DIGITS],

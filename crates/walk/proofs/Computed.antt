@@ -1,7 +1,7 @@
 -- What is computed is what is meant; and every walk ends. Assumes nothing.
 use mathlib.Core.Path.{◌≡◌, refl, sym, ◌∙◌, fun_ext, subst}
 use mathlib.Core.Logic.{inl, inr}
-use mathlib.Core.Bool.{Bool, true, false, ◌||◌, true≢false, or_true}
+use mathlib.Core.Bool.{Bool, true, false, ◌||◌, true≢false, or-true}
 use mathlib.Core.List.{List}
 use Prim.Native.Nat.{ℕ, zero, suc, ◌+◌, ◌≤◌, ◌<◌}
 use native.Mathlib.Omega.{arith}
@@ -76,7 +76,7 @@ module _ (D : Desk) where
 
   pub full_ended : (g : ℕ → ℕ) (b : ℕ) → bits ≤ g b → full_b D g b ≡ true
   unfolding full_b
-  full_ended g b l = rw (le-leb bits (g b) l, or_true)
+  full_ended g b l = rw (le-leb bits (g b) l, or-true)
 
   pub not_full : (g : ℕ → ℕ) (b : ℕ) → present b ≡ false → g b < bits → full_b D g b ≡ false
   unfolding full_b

@@ -67,4 +67,4 @@ module _ (D : Desk) where
   -- each step of an order is bare at the progress that the steps before it reach
   pub run_split : {g h : ℕ → ℕ} (o : Order) {o' : Order} (a b : ℕ) → Run D g (o ++ (a, b) ∷ o') h → (g' : ℕ → ℕ) × Run D g o g' × Bare D g' a b × Run D (bump g' b) o' h
   run_split {g} [] a b (step _ _ B u) = (g, done, B, u)
-  run_split ((d, e) ∷ o) a b (step _ _ q u) = let r = run_split o a b u in (r.0, step d e q r.1, r.2, r.3)
+  run_split {g} ((d, e) ∷ o) a b (step _ _ q u) = let r = run_split {g = bump g e} o a b u in (r.0, step d e q r.1, r.2, r.3)

@@ -1,7 +1,7 @@
 -- One pass over a parity's sources finds the one that is bare there. Assumes nothing.
 use mathlib.Core.Path.{◌≡◌, refl, sym, ap, ◌∙◌, subst}
 use mathlib.Core.Logic.{◌≢◌}
-use mathlib.Core.Bool.{Bool, true, false, true≢false, or_true}
+use mathlib.Core.Bool.{Bool, true, false, true≢false, or-true}
 use Prim.Native.Nat.{ℕ, zero, suc, ◌+◌, ◌≤◌, ◌<◌}
 use native.Mathlib.Omega.{arith}
 use native.Mathlib.Decide.{dec_lt, ℕ_discrete}
@@ -19,7 +19,7 @@ module _ (k : ℕ) (x : ℕ × ℕ) (p b : ℕ) where
 
   pub placed_under : p < x.0 → (p, b) ≡ placed_of k x p b
   unfolding placed_of
-  placed_under f = rw (lt-ltb p x.0 f, or_true)
+  placed_under f = rw (lt-ltb p x.0 f, or-true)
 
   pub placed_level : x.1 ≢ k → p ≡ x.0 → (p, k + 1) ≡ placed_of k x p b
   unfolding placed_of
@@ -48,7 +48,7 @@ module _ (D : Desk) (g : ℕ → ℕ) (a : ℕ) where
 
   pub lower_full : (b : ℕ) (x : ℕ × ℕ) → bits ≤ g b → x ≡ lower_of D g a b x
   unfolding lower_of
-  lower_full b x l = rw (le-leb bits (g b) l, or_true)
+  lower_full b x l = rw (le-leb bits (g b) l, or-true)
 
   pub lower_free : (b : ℕ) (x : ℕ × ℕ) → present b ≡ false → g b < bits → placed_of k x (place b) b ≡ lower_of D g a b x
   unfolding lower_of

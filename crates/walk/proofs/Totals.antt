@@ -4,7 +4,7 @@ use mathlib.Core.Bool.{Bool, cond, not}
 use Prim.Native.Nat.{ℕ, suc, ◌+◌, ◌*◌, ◌≤◌}
 use native.Mathlib.Omega.{arith}
 use native.Mathlib.Nat.{mul-le-mul}
-use borrow.Author.Tests.{not_true}
+use borrow.Author.Tests.{not-true}
 use lib.ListN.{length}
 use Rattle.bits.specs.Sums.{sum, count}
 use Rattle.bits.proofs.SumLaws.{one_at_same, one_at_other, sum_le, sum_but, sum_each, cond_le, count_not}
@@ -34,7 +34,7 @@ module _ (D : Desk) where
   pub total_whole : (g : ℕ → ℕ) → Fits D g → Whole D g → total g ≡ all
   unfolding total
   total_whole g fit full =
-      let each = sum_le k (λ c. cond (gone c) bits 0) (λ c. cond (gone c) (g c) 0) (λ c l. cond_le (gone c) _ _ (λ e. omega (arith, full c (l, not_true _ e)))) in
+      let each = sum_le k (λ c. cond (gone c) bits 0) (λ c. cond (gone c) (g c) 0) (λ c l. cond_le (gone c) _ _ (λ e. omega (arith, full c (l, not-true _ e)))) in
       omega (arith, total-all g fit, sum_each bits k gone)
 
   pub total_none : total (λ c. 0) ≡ 0

@@ -1,4 +1,6 @@
 // The walk of the decoding, without data: bare pairs, the next step, and the walk to its end.
+#![tactic(auto)]
+
 ghost use Rattle.std.specs.Prelude.{◌≡◌, [], ◌+◌, ◌≤◌, ◌<◌, set};
 ghost use Rattle.bits.specs.Sums.{at};
 ghost use Rattle.table.specs.Limits.{max_k, max_length, max_bits, noughts};
@@ -11,7 +13,7 @@ ghost use Rattle.walk.specs.Promise.{Stepped, Walked, Finished};
 use table::{Shape, Table};
 
 // What next step gives: the pair, from 1, and the progress after it.
-#[derive(Drop)]
+#[derive(Clone, Copy)]
 pub struct StepAnswer {
     pub number: u64,
     pub parity: u64,
@@ -20,7 +22,7 @@ pub struct StepAnswer {
 }
 
 // What walk gives: how many steps, whether every missing source is whole (1 or 0), and the progress at the end.
-#[derive(Drop)]
+#[derive(Clone, Copy)]
 pub struct WalkAnswer {
     pub number: u64,
     pub count: u64,
@@ -29,14 +31,14 @@ pub struct WalkAnswer {
 }
 
 // The lowest next bit of a parity so far: where it stands, and whose it is. The source is k where there is none yet, and above k where two share the place.
-#[derive(Drop)]
+#[derive(Clone, Copy)]
 pub struct Low {
     pub place: u64,
     pub source: usize,
 }
 
 // A pair of a parity and a source, from 0; the parity is m where none is bare.
-#[derive(Drop)]
+#[derive(Clone, Copy)]
 pub struct Pair {
     pub parity: usize,
     pub source: usize,

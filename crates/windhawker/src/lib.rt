@@ -1,10 +1,12 @@
 // The C interface: each export keeps the promise of the call that it passes on. Numbers come back as results, all else in slots.
+#![tactic(auto)]
+
 ghost use Rattle.family.specs.Promise.{FamilyWritten, Judged};
 ghost use Rattle.encode.specs.Promise.{EncodedAll, PacketMeasured, ParitiesMeasured, SurvivorsMeasured};
 ghost use Rattle.walk.specs.Promise.{Walked, Stepped};
 ghost use Rattle.steps.specs.Promise.{StepsChecked};
 ghost use Rattle.rebuild.specs.Promise.{Rebuilt};
-ghost use Rattle.logbook.specs.Promise.{LogRebuilt};
+ghost use Rattle.whole_log.specs.Promise.{LogRebuilt};
 ghost use Rattle.packet.specs.Promise.{PacketMade};
 ghost use Rattle.look.specs.Promise.{LookedAt};
 ghost use Rattle.card.specs.Promise.{BlockTaken};
@@ -232,7 +234,7 @@ pub extern "C" fn whx_rebuild_log(
 ) -> u64
     ensures { LogRebuilt k m l table.now stripes marks packets.now out.old result good.new count.new out.new }
 {
-    let log = logbook::rebuild_log(k, m, l, table, stripes, marks, packets, out);
+    let log = whole_log::rebuild_log(k, m, l, table, stripes, marks, packets, out);
     *good = log.good;
     *count = log.count;
     log.number

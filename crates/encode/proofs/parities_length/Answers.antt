@@ -1,0 +1,20 @@
+-- Where the shape is refused there is no length; else it is that of all parities. Assumes nothing.
+use mathlib.Core.Path.{◌≡◌, refl}
+use Rattle.table.specs.Desk.{parities_bytes}
+use Rattle.table.specs.Checks.{shape_checks}
+use Rattle.table.proofs.AnswerLaws.{answer_refused, answer_done}
+use Rattle.checks.proofs.OpenLaws.{opened_passes, at-desk}
+use Rattle.encode.proofs.parities_length.Goals as goal
+
+pub returns-then-o-ne0 : goal.returns-then-o-ne0
+returns-then-o-ne0 c =
+    let s = c.args in
+    let e = c.no_length.ensures in
+    answer_refused (shape_checks s.k s.m s.l s.table.now) c.open_shape-o.result.number _ c.open_shape-o.ensures.numbered c.if-o-ne0.true e.0 e.1
+
+pub returns : goal.returns
+returns c =
+    let s = c.args in
+    let cs = shape_checks s.k s.m s.l s.table.now in
+    answer_done cs 0 (opened_passes c.open_shape-o.ensures c.if-o-ne0.false) refl
+    (at-desk c.open_shape-o.ensures c.if-o-ne0.false (λ _ D. c.bytes_of_parities-bytes.result ≡ parities_bytes D) c.bytes_of_parities-bytes.ensures)

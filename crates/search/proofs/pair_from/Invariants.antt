@@ -1,0 +1,12 @@
+-- Only parities at hand are looked at, and the source that leads in the row of one is bare there. Assumes nothing.
+use Prim.Native.Nat.{◌+◌, ◌-◌, ◌≤◌, ◌<◌}
+use mathlib.Core.Path.{◌≡◌}
+use mathlib.Core.Bool.{true}
+use Rattle.table.specs.Desk.{mark}
+use Rattle.search.proofs.pair_from.Given as goal
+
+abbrev pub invariant-loop-i : goal.invariant-loop-i
+invariant-loop-i l = (l.s.k ≤ l.i) × (l.i ≤ l.s.k + l.s.m) × (l.i < l.s.k + l.s.m → mark l.s.marks l.i ≡ true)
+
+abbrev pub decreases-loop-i : goal.decreases-loop-i
+decreases-loop-i l = l.s.k + l.s.m - l.i

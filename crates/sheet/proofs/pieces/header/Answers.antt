@@ -1,0 +1,13 @@
+-- It is put at the front, where nothing stands before it.
+use mathlib.Core.Path.{refl}
+use mathlib.Core.List.{[]}
+use native.Mathlib.Omega.{arith}
+use Rattle.sheet.proofs.pieces.header.Goals as goal
+
+pub returns-then-out-lt-ROOM : goal.returns-then-out-lt-ROOM
+returns-then-out-lt-ROOM c = record { short = λ _. (refl, refl); done = λ l. absurd (omega arith) }
+
+pub returns : goal.returns
+returns c =
+    let p = c.put.ensures in
+    record { short = λ l. absurd (omega arith); done = λ _. (p.0, p.1 c.args.out.now [] refl refl) }

@@ -1,0 +1,15 @@
+-- A source is full if it is present, or else if its progress is at its end. Assumes nothing.
+use mathlib.Core.Path.{sym, ◌∙◌}
+use mathlib.Core.List.{[]}
+use Rattle.bits.specs.Sums.{at}
+use Rattle.table.specs.Table.{desk_of}
+use Rattle.walk.specs.Compute.{full_b}
+use Rattle.walk.proofs.Computed.{full_present}
+use Rattle.walk.proofs.is_full.Goals as goal
+
+pub returns-then-marked : goal.returns-then-marked
+returns-then-marked c = sym (full_present (desk_of c.args.s []) (at c.args.g.now) c.args.b (sym c.marked.ensures ∙ c.if-marked.true))
+
+pub returns : goal.returns
+unfolding full_b
+returns c = rw (c.source_bits.ensures, sym c.marked.ensures ∙ c.if-marked.false)
