@@ -6,7 +6,8 @@ ghost use Rattle.bits.specs.Sums.{at};
 ghost use Rattle.bits.specs.Bits.{Tells};
 ghost use Rattle.table.specs.Limits.{max_k, max_m, max_length, max_shift};
 ghost use Rattle.table.specs.Table.{Within, room_of};
-ghost use Rattle.table.specs.Checks.{Checked, size_checks, length_checks, table_checks, number_checks, marks_checks, asked_checks, progress_checks, input_checks, output_checks, shape_checks, marked_checks};
+ghost use Rattle.table.specs.Checks.{Checked, size_checks, length_checks, table_checks, number_checks, marks_checks, shape_checks, marked_checks};
+ghost use Rattle.table.specs.Checks.{asked_checks, progress_checks, input_checks, output_checks};
 ghost use Rattle.checks.specs.Opening.{Opens};
 
 use table::{Number, Shape, Table};

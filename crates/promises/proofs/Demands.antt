@@ -584,12 +584,12 @@ module _ (k m family : ℕ) (before table : List ℕ) (w : FamilyWritten k m fam
   family_judged =
       let F = w.done refl in
       let p = passed (size_checks k m) (family_number_checks family ++ output_checks (m * k) before) (numbered_by (size_checks k m) refl) w.numbered in
-      let one_of_lem = family_in_range family (passed (family_number_checks family) (output_checks (m * k) before) (numbered_by (family_number_checks family) refl) p.1).0 in
-      let low = family_low family k m table one_of_lem.0 one_of_lem.1 (sized k m p.0) F in
+      let one_of = family_in_range family (passed (family_number_checks family) (output_checks (m * k) before) (numbered_by (family_number_checks family) refl) p.1).0 in
+      let low = family_low family k m table one_of.0 one_of.1 (sized k m p.0) F in
       record {
         numbered = goes (size_checks k m) (table_checks k m table) 0 (numbered_by (size_checks k m) refl) p.0 (inr (neither (λ n. n F.size) (λ x. omega (arith, low x.0, x.1)), refl));
         refused = λ n. absurd (n refl);
-        done = λ _. inl (family_grows family k m table one_of_lem.0 one_of_lem.1 F, refl);
+        done = λ _. inl (family_grows family k m table one_of.0 one_of.1 F, refl);
       }
 
 pub family_gets_yes : Demands.FamilyGetsYes

@@ -1,5 +1,36 @@
 -- Laws of division by z ^ e, and by 1 + z ^ d: of bits, of a word, and of a row word by word. Assumes nothing.
-use Rattle.std.proofs.Common.{◌≡◌, ℕ, zero, suc, ◌+◌, ◌-◌, ◌*◌, ◌/◌, ◌%◌, ◌^◌, ◌<◌, ◌≤◌, cond, ltb, ◌≢◌, List, set, sym, refl, ap, ◌∙◌, ap₂, mul_comm, mul-le-mul, div-add-mod', arith, get_or-set_other, pow_mono, le-ltb, lt-ltb}
+use Rattle.std.proofs.Common.{
+  ◌≡◌,
+  ℕ,
+  zero,
+  suc,
+  ◌+◌,
+  ◌-◌,
+  ◌*◌,
+  ◌/◌,
+  ◌%◌,
+  ◌^◌,
+  ◌<◌,
+  ◌≤◌,
+  cond,
+  ltb,
+  ◌≢◌,
+  List,
+  set,
+  sym,
+  refl,
+  ap,
+  ◌∙◌,
+  ap₂,
+  mul_comm,
+  mul-le-mul,
+  div-add-mod',
+  arith,
+  get_or-set_other,
+  pow_mono,
+  le-ltb,
+  lt-ltb,
+}
 use native.Mathlib.Nat.{mod-add-mod, add-mod-mod, add-mul-mod_self_right}
 use native.Mathlib.Decide.{dec_lt}
 use lib.Bits.{bit_xor}

@@ -1,5 +1,34 @@
 -- Laws of bytes as one number, eight or those that are left, and of what crosses into a word that is shifted up. Assumes nothing.
-use Rattle.std.proofs.Common.{◌≡◌, ℕ, suc, ◌+◌, ◌-◌, ◌*◌, ◌/◌, ◌%◌, ◌^◌, ◌<◌, ◌≤◌, List, length, get_or, drop, sym, ap, ◌∙◌, lt_of_lt_of_le, mod-lt, arith, lit<, length-drop, get_or-drop, pow_pos, pow_mono, pow-add, shl_lt}
+use Rattle.std.proofs.Common.{
+  ◌≡◌,
+  ℕ,
+  suc,
+  ◌+◌,
+  ◌-◌,
+  ◌*◌,
+  ◌/◌,
+  ◌%◌,
+  ◌^◌,
+  ◌<◌,
+  ◌≤◌,
+  List,
+  length,
+  get_or,
+  drop,
+  sym,
+  ap,
+  ◌∙◌,
+  lt_of_lt_of_le,
+  mod-lt,
+  arith,
+  lit<,
+  length-drop,
+  get_or-drop,
+  pow_pos,
+  pow_mono,
+  pow-add,
+  shl_lt,
+}
 use native.Mathlib.Decide.{dec_lt}
 use lib.Bits.{bit_or, bit_xor, or_shifted, xor_shifted}
 use lib.Pow.{split, high, low}

@@ -111,7 +111,8 @@ module _ (D : Desk) where
   walk_ends zero g kl fit fuel = (done, λ a b B. omega (arith, total_step D (at g) b B.free.0, total-all D (bump (at g) b) (bump_fits D (at g) a b B fit)), refl)
   walk_ends (suc f) g kl fit fuel = go (ltb (parity_of D (at g)) m) refl (walk_ends f)
     where
-      go : (v : Bool) → ltb (parity_of D (at g)) m ≡ v → ((g' : List ℕ) → k ≤ length g' → Fits D (at g') → all D ≤ total D (at g') + f → EndsAt g' (walk_from D f g')) → EndsAt g (walk_from D (suc f) g)
+      go : (v : Bool) → ltb (parity_of D (at g)) m ≡ v → ((g' : List ℕ) → k ≤ length g' → Fits D (at g') → all D ≤ total D (at g') + f → EndsAt g' (walk_from D f g'))
+          → EndsAt g (walk_from D (suc f) g)
       go false e ih = rw (e, walk_from) (done, no_pair (at g) (ltb-false _ _ e), refl)
       go true e ih =
           let a = parity_of D (at g) in

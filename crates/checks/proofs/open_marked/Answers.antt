@@ -20,8 +20,12 @@ returns-then-o-ne0 c = opens_stops c.open_shape-o.ensures (marks (goal.at.return
 
 pub returns-then-number-ne0 : goal.returns-then-number-ne0
 returns-then-number-ne0 c =
-    let both = goes (shape_checks c.args.k c.args.m c.args.l c.args.table.now) (marks (goal.at.returns-then-number-ne0 c).Start) _ (numbered_by (shape_checks c.args.k c.args.m c.args.l c.args.table.now) refl) (opened_passes c.open_shape-o.ensures c.if-o-ne0.false) (marked (goal.at.returns-then-number-ne0 c).After-marks_number-number) in
+    let shape = shape_checks c.args.k c.args.m c.args.l c.args.table.now in
+    let both = goes shape (marks (goal.at.returns-then-number-ne0 c).Start) _ (numbered_by shape refl) (opened_passes c.open_shape-o.ensures c.if-o-ne0.false)
+    (marked (goal.at.returns-then-number-ne0 c).After-marks_number-number) in
     refused_opens both c.if-number-ne0.true c.refused.ensures.0 c.refused.ensures.1
 
 pub returns : goal.returns
-returns c = opens_goes c.open_shape-o.ensures c.if-o-ne0.false (marks (goal.at.returns c).Start) (numbered_by (shape_checks c.args.k c.args.m c.args.l c.args.table.now) refl) (zero_checked (marks (goal.at.returns c).Start) _ c.if-number-ne0.false (marked (goal.at.returns c).After-marks_number-number))
+returns c =
+    opens_goes c.open_shape-o.ensures c.if-o-ne0.false (marks (goal.at.returns c).Start) (numbered_by (shape_checks c.args.k c.args.m c.args.l c.args.table.now) refl)
+    (zero_checked (marks (goal.at.returns c).Start) _ c.if-number-ne0.false (marked (goal.at.returns c).After-marks_number-number))

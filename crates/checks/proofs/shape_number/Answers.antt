@@ -14,12 +14,15 @@ size-passed : (c : Else-size-ne0) → Checked (size_checks c.args.k c.args.m) 0
 size-passed c = zero_checked (size_checks c.args.k c.args.m) _ c.if-size-ne0.false c.size_number-size.ensures
 
 pub returns-then-size-ne0 : goal.returns-then-size-ne0
-returns-then-size-ne0 c = stops (size_checks c.args.k c.args.m) ((length_checks c.args.l) ++ table (goal.at.returns-then-size-ne0 c).Start) c.size_number-size.result c.size_number-size.ensures c.if-size-ne0.true
+returns-then-size-ne0 c =
+    stops (size_checks c.args.k c.args.m) ((length_checks c.args.l) ++ table (goal.at.returns-then-size-ne0 c).Start) c.size_number-size.result c.size_number-size.ensures c.if-size-ne0.true
 
 pub returns-then-length-ne0 : goal.returns-then-length-ne0
 returns-then-length-ne0 c =
-    goes (size_checks c.args.k c.args.m) ((length_checks c.args.l) ++ table (goal.at.returns-then-length-ne0 c).Start) c.length_number-length.result (numbered_by (size_checks c.args.k c.args.m) refl) (size-passed (goal.at.returns-then-length-ne0 c).Else-size-ne0)
-    (stops (length_checks c.args.l) (table (goal.at.returns-then-length-ne0 c).Start) c.length_number-length.result c.length_number-length.ensures c.if-length-ne0.true)
+    let size = size_checks c.args.k c.args.m in
+    let length = length_checks c.args.l in
+    goes size (length ++ table (goal.at.returns-then-length-ne0 c).Start) c.length_number-length.result (numbered_by size refl) (size-passed (goal.at.returns-then-length-ne0 c).Else-size-ne0)
+    (stops length (table (goal.at.returns-then-length-ne0 c).Start) c.length_number-length.result c.length_number-length.ensures c.if-length-ne0.true)
 
 pub table_number-requires : goal.table_number-requires
 table_number-requires c =
@@ -29,6 +32,8 @@ table_number-requires c =
 
 pub returns : goal.returns
 returns c =
-    let fits = zero_checked (length_checks c.args.l) _ c.if-length-ne0.false c.length_number-length.ensures in
-    goes (size_checks c.args.k c.args.m) ((length_checks c.args.l) ++ table (goal.at.returns c).Start) c.table_number.result (numbered_by (size_checks c.args.k c.args.m) refl) (size-passed (goal.at.returns c).Else-size-ne0)
-    (goes (length_checks c.args.l) (table (goal.at.returns c).Start) c.table_number.result (numbered_by (length_checks c.args.l) refl) fits c.table_number.ensures)
+    let size = size_checks c.args.k c.args.m in
+    let length = length_checks c.args.l in
+    let fits = zero_checked length _ c.if-length-ne0.false c.length_number-length.ensures in
+    goes size (length ++ table (goal.at.returns c).Start) c.table_number.result (numbered_by size refl) (size-passed (goal.at.returns c).Else-size-ne0)
+    (goes length (table (goal.at.returns c).Start) c.table_number.result (numbered_by length refl) fits c.table_number.ensures)

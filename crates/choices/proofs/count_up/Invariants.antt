@@ -8,7 +8,9 @@ use Rattle.choices.specs.Choices.{run}
 use Rattle.choices.proofs.count_up.Given as goal
 
 abbrev pub invariant-loop-at : goal.invariant-loop-at
-invariant-loop-at l = (l.i ≤ l.at) × (l.at ≤ l.k) × (l.number ≡ l.x + (l.at - l.i)) × (length l.out ≡ max_k) × (length l.initial.out ≡ max_k) × (l.out ≡ take l.i l.initial.out ++ run l.x (l.at - l.i) ++ drop l.at l.initial.out)
+invariant-loop-at l =
+    (l.i ≤ l.at) × (l.at ≤ l.k) × (l.number ≡ l.x + (l.at - l.i)) × (length l.out ≡ max_k) × (length l.initial.out ≡ max_k)
+    × (l.out ≡ take l.i l.initial.out ++ run l.x (l.at - l.i) ++ drop l.at l.initial.out)
 
 abbrev pub decreases-loop-at : goal.decreases-loop-at
 decreases-loop-at l = l.k - l.at

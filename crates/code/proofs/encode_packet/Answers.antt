@@ -45,7 +45,8 @@ returns-then-i-k c =
     let x = c.args.sources.now in
     let i = c.args.i in
     let n = c.source_bytes-bytes.result in
-    let all : length c.args.out.now ≤ length (take (i * n + n - i * n) (drop (i * n) x)) = omega (arith, (taken (goal.at.returns-then-i-k c).Then-i-k).long, source-fills (goal.at.returns-then-i-k c).Then-i-k) in
+    let all : length c.args.out.now ≤ length (take (i * n + n - i * n) (drop (i * n) x)) = omega
+    (arith, (taken (goal.at.returns-then-i-k c).Then-i-k).long, source-fills (goal.at.returns-then-i-k c).Then-i-k) in
     c.copy_front.ensures
     ∙ ap₂ ◌++◌ (taken (goal.at.returns-then-i-k c).Then-i-k).same (drop_of_length-le c.args.out.now all)
     ∙ append-nil (part x D.bytes i)

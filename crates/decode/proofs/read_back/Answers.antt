@@ -29,7 +29,8 @@ returns c =
     let z = c.args.s in
     let W = within_bounds z c.args.shifts.now c.requires.ready.within in
     let d = c.uncover-d.result in
-    let end = ended z c.args.shifts.now c.args.packets.now W (marks-fit (goal.at.returns c).After-struct_known-1) (held_in z.marks z.k z.m c.requires.ready.none_above) (shape_short z c.args.shifts.now)
+    let end = ended z c.args.shifts.now c.args.packets.now W (marks-fit (goal.at.returns c).After-struct_known-1) (held_in z.marks z.k z.m c.requires.ready.none_above)
+    (shape_short z c.args.shifts.now)
     _ _ _ _ c.place_packets.ensures c.add_to_rests.ensures d.count d.whole c.uncover-d.ensures c.add_to_rests-2.ensures in record {
       read_back = end.read c.known.ensures c.requires.survivors c.clear_rows-consistent.result c.clear_rows-consistent.ensures;
       in_bytes = (end.short, λ e. end.nothing (c.clear_rows-consistent.ensures.so e));

@@ -45,6 +45,7 @@ returns c =
     let D = desk_of z c.args.shifts.now in
     let W = within_bounds z c.args.shifts.now c.requires.ready.within in
     let uncovered = solved_uncovered D c.args.way c.args.missing c.args.held.now c.args.columns.now c.args.rises.now c.requires.planned _ _ c.solve_missing.ensures in
-    let end = ended z c.args.shifts.now c.args.packets.now W (marks-fit (goal.at.returns c).After-struct_known-1) (held_in z.marks z.k z.m c.requires.ready.none_above) (shape_short z c.args.shifts.now)
+    let end = ended z c.args.shifts.now c.args.packets.now W (marks-fit (goal.at.returns c).After-struct_known-1) (held_in z.marks z.k z.m c.requires.ready.none_above)
+    (shape_short z c.args.shifts.now)
     _ _ _ _ c.place_packets.ensures c.add_to_rests.ensures (c.args.missing * D.bits) true uncovered c.add_to_rests-2.ensures in
     end.read c.known.ensures c.requires.survivors c.clear_rows.result c.clear_rows.ensures

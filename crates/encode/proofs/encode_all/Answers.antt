@@ -51,7 +51,8 @@ opened : (c : After-lay_out) → let s = c.args in
     Opens (shape_checks s.k s.m s.l s.table.now) s.k s.m s.l s.table.now 0 (laid c)
 opened c =
     let s = c.args in
-    laid_opens s.k s.m s.l s.table.now 0 (c.lay_out.new.shifts) (zero_checked (shape_checks s.k s.m s.l s.table.now) _ c.if-number-ne0.false c.shape_number-number.ensures) c.lay_out.auto.shifts c.lay_out.ensures
+    laid_opens s.k s.m s.l s.table.now 0 (c.lay_out.new.shifts) (zero_checked (shape_checks s.k s.m s.l s.table.now) _ c.if-number-ne0.false c.shape_number-number.ensures)
+    c.lay_out.auto.shifts c.lay_out.ensures
 
 pub all_parities-requires : goal.all_parities-requires
 all_parities-requires c = (opened (goal.at.all_parities-requires c).After-lay_out).within

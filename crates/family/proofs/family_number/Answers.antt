@@ -13,9 +13,12 @@ pub returns-then-size-ne0 : goal.returns-then-size-ne0
 returns-then-size-ne0 c = stops (size_checks c.args.k c.args.m) (family_number_checks c.args.family) c.size_number-size.result c.size_number-size.ensures c.if-size-ne0.true
 
 -- past the size, the family decides
-decides : (c : Else-size-ne0) (n : ℕ) → Checked (family_number_checks c.args.family) n → Checked ((size_checks c.args.k c.args.m) ++ (family_number_checks c.args.family)) n
+decides : (c : Else-size-ne0) (n : ℕ)
+    → let which = family_number_checks c.args.family in
+    Checked which n → Checked ((size_checks c.args.k c.args.m) ++ which) n
 decides c n =
-    goes (size_checks c.args.k c.args.m) (family_number_checks c.args.family) n (numbered_by (size_checks c.args.k c.args.m) refl) (zero_checked (size_checks c.args.k c.args.m) _ c.if-size-ne0.false c.size_number-size.ensures)
+    let size = size_checks c.args.k c.args.m in
+    goes size (family_number_checks c.args.family) n (numbered_by size refl) (zero_checked size _ c.if-size-ne0.false c.size_number-size.ensures)
 
 pub returns-then-family-lt1 : goal.returns-then-family-lt1
 returns-then-family-lt1 c = decides (goal.at.returns-then-family-lt1 c).Else-size-ne0 19 (inl (inl (search rules), refl))

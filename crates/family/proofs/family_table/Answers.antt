@@ -25,13 +25,18 @@ within : (c : Else-number-ne0) → let s = c.args in Sized s.k s.m
 within c = let s = c.args in sized s.k s.m (passed-parts c).0
 
 pub returns-then-number-ne0 : goal.returns-then-number-ne0
-returns-then-number-ne0 c = answer_stops (size_checks c.args.k c.args.m ++ family_number_checks c.args.family) (output_checks (c.args.m * c.args.k) c.args.out.now) _ _ c.family_number-number.ensures c.if-number-ne0.true refl refl
+returns-then-number-ne0 c =
+    answer_stops (size_checks c.args.k c.args.m ++ family_number_checks c.args.family) (output_checks (c.args.m * c.args.k) c.args.out.now) _ _ c.family_number-number.ensures c.if-number-ne0.true
+    refl refl
 
 pub overflow_mul-m : goal.overflow_mul-m
 overflow_mul-m c = let z = within (goal.at.overflow_mul-m c).Else-number-ne0 in omega (arith, small_product c.args.m c.args.k z.m_high z.k_high)
 
 pub returns-then-out-m : goal.returns-then-out-m
-returns-then-out-m c = answer_goes (size_checks c.args.k c.args.m ++ family_number_checks c.args.family) (output_checks (c.args.m * c.args.k) c.args.out.now) 5 (numbered_by (size_checks c.args.k c.args.m ++ family_number_checks c.args.family) refl) (passed-asked (goal.at.returns-then-out-m c).Else-number-ne0) (answer_refused (output_checks (c.args.m * c.args.k) c.args.out.now) 5 5 (inl (c.if-out-m.true, refl)) (λ z. omega arith) refl refl)
+returns-then-out-m c =
+    let asked = size_checks c.args.k c.args.m ++ family_number_checks c.args.family in
+    let room = output_checks (c.args.m * c.args.k) c.args.out.now in
+    answer_goes asked room 5 (numbered_by asked refl) (passed-asked (goal.at.returns-then-out-m c).Else-number-ne0) (answer_refused room 5 5 (inl (c.if-out-m.true, refl)) (λ z. omega arith) refl refl)
 
 pub write_table-requires : goal.write_table-requires
 write_table-requires c =
@@ -42,4 +47,7 @@ write_table-requires c =
     }
 
 pub returns : goal.returns
-returns c = answer_goes (size_checks c.args.k c.args.m ++ family_number_checks c.args.family) (output_checks (c.args.m * c.args.k) c.args.out.now) 0 (numbered_by (size_checks c.args.k c.args.m ++ family_number_checks c.args.family) refl) (passed-asked (goal.at.returns c).Else-number-ne0) (answer_done (output_checks (c.args.m * c.args.k) c.args.out.now) 0 (inr ((λ n. n c.if-out-m.false), refl)) refl c.write_table.ensures)
+returns c =
+    let asked = size_checks c.args.k c.args.m ++ family_number_checks c.args.family in
+    let room = output_checks (c.args.m * c.args.k) c.args.out.now in
+    answer_goes asked room 0 (numbered_by asked refl) (passed-asked (goal.at.returns c).Else-number-ne0) (answer_done room 0 (inr ((λ n. n c.if-out-m.false), refl)) refl c.write_table.ensures)

@@ -35,7 +35,8 @@ returns-then-family-eq-HOUSE c =
     let house = c.house in
     let h = house.ensures in
     let sheet = house_of_family c.args.k c.args.m house.result h.0 h.1 h.2 in
-    written (goal.at.returns-then-family-eq-HOUSE c).Start house.result c.write.new.out c.write.auto.out (subst (λ f. OfFamily f c.args.k c.args.m house.result) (sym c.if-family-eq-HOUSE.true) sheet) c.write.ensures
+    written (goal.at.returns-then-family-eq-HOUSE c).Start house.result c.write.new.out c.write.auto.out
+    (subst (λ f. OfFamily f c.args.k c.args.m house.result) (sym c.if-family-eq-HOUSE.true) sheet) c.write.ensures
 
 pub write-requires-2 : goal.write-requires-2
 write-requires-2 c =

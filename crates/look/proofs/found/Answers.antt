@@ -20,13 +20,17 @@ one c = let a = c.args in asked_one a.s.k a.s.m a.s.marks a.s.k a.source (passes
 pub returns-then-which-ne0 : goal.returns-then-which-ne0
 returns-then-which-ne0 c =
     let e = c.nowhere.ensures in
-    answer_stops (asked_checks c.args.s.k c.args.s.m c.args.s.marks c.args.s.k c.args.source) (buffers_checks (desk_of c.args.s c.args.shifts.now) c.args.survivors.now c.args.rebuilt.now) c.asked_number-which.result _ c.asked_number-which.ensures c.if-which-ne0.true e.0 (e.1, e.2, e.3)
+    answer_stops (asked_checks c.args.s.k c.args.s.m c.args.s.marks c.args.s.k c.args.source) (buffers_checks (desk_of c.args.s c.args.shifts.now) c.args.survivors.now c.args.rebuilt.now)
+    c.asked_number-which.result _ c.asked_number-which.ensures c.if-which-ne0.true e.0 (e.1, e.2, e.3)
 
 pub returns-then-lent-ne0 : goal.returns-then-lent-ne0
 returns-then-lent-ne0 c =
+    let D = desk_of c.args.s c.args.shifts.now in
+    let asked = asked_checks c.args.s.k c.args.s.m c.args.s.marks c.args.s.k c.args.source in
+    let lent = buffers_checks D c.args.survivors.now c.args.rebuilt.now in
     let e = c.nowhere-then-lent-ne0.ensures in
-    answer_goes (asked_checks c.args.s.k c.args.s.m c.args.s.marks c.args.s.k c.args.source) (buffers_checks (desk_of c.args.s c.args.shifts.now) c.args.survivors.now c.args.rebuilt.now) _ (numbered_by (asked_checks c.args.s.k c.args.s.m c.args.s.marks c.args.s.k c.args.source) refl) (passes (goal.at.returns-then-lent-ne0 c).Else-which-ne0)
-    (answer_refused (buffers_checks (desk_of c.args.s c.args.shifts.now) c.args.survivors.now c.args.rebuilt.now) c.buffers_number-lent.result _ c.buffers_number-lent.ensures c.if-lent-ne0.true e.0 (e.1, e.2, e.3))
+    answer_goes asked lent _ (numbered_by asked refl) (passes (goal.at.returns-then-lent-ne0 c).Else-which-ne0)
+    (answer_refused lent c.buffers_number-lent.result _ c.buffers_number-lent.ensures c.if-lent-ne0.true e.0 (e.1, e.2, e.3))
 
 pub overflow_sub-source : goal.overflow_sub-source
 overflow_sub-source c = omega (arith, (one (goal.at.overflow_sub-source c).Else-which-ne0).0)
@@ -40,6 +44,9 @@ standing-requires c =
 
 pub returns : goal.returns
 returns c =
+    let D = desk_of c.args.s c.args.shifts.now in
+    let asked = asked_checks c.args.s.k c.args.s.m c.args.s.marks c.args.s.k c.args.source in
+    let lent = buffers_checks D c.args.survivors.now c.args.rebuilt.now in
     let e = c.standing.ensures in
-    let free = zero_checked (buffers_checks (desk_of c.args.s c.args.shifts.now) c.args.survivors.now c.args.rebuilt.now) c.buffers_number-lent.result c.if-lent-ne0.false c.buffers_number-lent.ensures in
-    answer_goes (asked_checks c.args.s.k c.args.s.m c.args.s.marks c.args.s.k c.args.source) (buffers_checks (desk_of c.args.s c.args.shifts.now) c.args.survivors.now c.args.rebuilt.now) _ (numbered_by (asked_checks c.args.s.k c.args.s.m c.args.s.marks c.args.s.k c.args.source) refl) (passes (goal.at.returns c).Else-which-ne0) (answer_done (buffers_checks (desk_of c.args.s c.args.shifts.now) c.args.survivors.now c.args.rebuilt.now) _ free e.0 (e.1, e.2))
+    let free = zero_checked lent c.buffers_number-lent.result c.if-lent-ne0.false c.buffers_number-lent.ensures in
+    answer_goes asked lent _ (numbered_by asked refl) (passes (goal.at.returns c).Else-which-ne0) (answer_done lent _ free e.0 (e.1, e.2))

@@ -36,8 +36,10 @@ store-requires c =
 
 pub returns : goal.returns
 returns c =
+    let D = desk_of c.args.s c.args.shifts.now in
     let i = c.args.i in
     let rows = c.args.rows.now in
     let short = shape_short c.args.s c.args.shifts.now _ in
-    let held = packet_held (desk_of c.args.s c.args.shifts.now) rows (bounds (goal.at.returns c).Start) short c.requires.in_bytes c.requires.no_rest _ _ c.add_to_rests.ensures i c.requires.i_bound (its_mark i (few (goal.at.returns c).Start)) in
-    packet_stored (desk_of c.args.s c.args.shifts.now) rows i _ c.args.out.now _ held c.requires.out_len c.known.ensures c.store.ensures
+    let held = packet_held D rows (bounds (goal.at.returns c).Start) short c.requires.in_bytes c.requires.no_rest _ _ c.add_to_rests.ensures i c.requires.i_bound
+    (its_mark i (few (goal.at.returns c).Start)) in
+    packet_stored D rows i _ c.args.out.now _ held c.requires.out_len c.known.ensures c.store.ensures

@@ -18,7 +18,10 @@ one : (c : Else-number-ne0) → let a = c.args in (1 ≤ a.wanted) × (a.wanted 
 one c = let a = c.args in asked_one a.s.k a.s.m a.s.marks (a.s.k + a.s.m) a.wanted (passes c)
 
 pub returns-then-number-ne0 : goal.returns-then-number-ne0
-returns-then-number-ne0 c = answer_stops (asked_checks c.args.s.k c.args.s.m c.args.s.marks (c.args.s.k + c.args.s.m) c.args.wanted) (wanted_lent_checks (desk_of c.args.s c.args.shifts.now) c.args.packets.now (c.args.wanted - 1) c.args.out.now) c.asked_number-number.result _ c.asked_number-number.ensures c.if-number-ne0.true refl refl
+returns-then-number-ne0 c =
+    answer_stops (asked_checks c.args.s.k c.args.s.m c.args.s.marks (c.args.s.k + c.args.s.m) c.args.wanted)
+    (wanted_lent_checks (desk_of c.args.s c.args.shifts.now) c.args.packets.now (c.args.wanted - 1) c.args.out.now) c.asked_number-number.result _ c.asked_number-number.ensures
+    c.if-number-ne0.true refl refl
 
 pub overflow_sub-wanted : goal.overflow_sub-wanted
 overflow_sub-wanted c = omega (arith, (one (goal.at.overflow_sub-wanted c).Else-number-ne0).0)
@@ -36,5 +39,7 @@ packet_lent-requires c =
 
 pub returns : goal.returns
 returns c =
+    let asked = asked_checks c.args.s.k c.args.s.m c.args.s.marks (c.args.s.k + c.args.s.m) c.args.wanted in
     let r = c.packet_lent in
-    answer_goes (asked_checks c.args.s.k c.args.s.m c.args.s.marks (c.args.s.k + c.args.s.m) c.args.wanted) (wanted_lent_checks (desk_of c.args.s c.args.shifts.now) c.args.packets.now (c.args.wanted - 1) c.args.out.now) r.result (numbered_by (asked_checks c.args.s.k c.args.s.m c.args.s.marks (c.args.s.k + c.args.s.m) c.args.wanted) refl) (passes (goal.at.returns c).Else-number-ne0) r.ensures
+    answer_goes asked (wanted_lent_checks (desk_of c.args.s c.args.shifts.now) c.args.packets.now (c.args.wanted - 1) c.args.out.now) r.result (numbered_by asked refl)
+    (passes (goal.at.returns c).Else-number-ne0) r.ensures

@@ -13,22 +13,29 @@ use Rattle.packet.proofs.packet_of_any.Goals.{After-lengths_number-number, Else-
 -- the lengths that were computed are those of the checks
 checked : (c : After-lengths_number-number) → Checked (wanted_lengths_checks (desk_of c.args.s c.args.shifts.now) c.args.packets.now c.args.i c.args.out.now) c.lengths_number-number.result
 checked c =
+    let D = desk_of c.args.s c.args.shifts.now in
     let needed = c.bytes_of_survivors-needed in
     let room = c.bytes_of-room in
-    lengths_are needed.result (survivors_bytes (desk_of c.args.s c.args.shifts.now)) room.result (packet_bytes (desk_of c.args.s c.args.shifts.now) c.args.i) c.args.packets.now c.args.out.now _
+    lengths_are needed.result (survivors_bytes D) room.result (packet_bytes D c.args.i) c.args.packets.now c.args.out.now _
     needed.ensures room.ensures.0 c.lengths_number-number.ensures
 
 passes : (c : Else-number-ne0) → Checked (wanted_lengths_checks (desk_of c.args.s c.args.shifts.now) c.args.packets.now c.args.i c.args.out.now) 0
-passes c = zero_checked (wanted_lengths_checks (desk_of c.args.s c.args.shifts.now) c.args.packets.now c.args.i c.args.out.now) c.lengths_number-number.result c.if-number-ne0.false
-    (lengths_are _ (survivors_bytes (desk_of c.args.s c.args.shifts.now)) _ (packet_bytes (desk_of c.args.s c.args.shifts.now) c.args.i) c.args.packets.now c.args.out.now _
+passes c =
+    let D = desk_of c.args.s c.args.shifts.now in
+    zero_checked (wanted_lengths_checks D c.args.packets.now c.args.i c.args.out.now) c.lengths_number-number.result c.if-number-ne0.false
+    (lengths_are _ (survivors_bytes D) _ (packet_bytes D c.args.i) c.args.packets.now c.args.out.now _
     c.bytes_of_survivors-needed.ensures c.bytes_of-room.ensures.0 c.lengths_number-number.ensures)
 
 pub returns-then-number-ne0 : goal.returns-then-number-ne0
-returns-then-number-ne0 c = answer_stops (wanted_lengths_checks (desk_of c.args.s c.args.shifts.now) c.args.packets.now c.args.i c.args.out.now) (decode_checks (desk_of c.args.s c.args.shifts.now) c.args.packets.now) c.lengths_number-number.result _ (checked (goal.at.returns-then-number-ne0 c).After-lengths_number-number) c.if-number-ne0.true refl refl
+returns-then-number-ne0 c =
+    let D = desk_of c.args.s c.args.shifts.now in
+    answer_stops (wanted_lengths_checks D c.args.packets.now c.args.i c.args.out.now) (decode_checks D c.args.packets.now) c.lengths_number-number.result _
+    (checked (goal.at.returns-then-number-ne0 c).After-lengths_number-number) c.if-number-ne0.true refl refl
 
 pub read_back-requires : goal.read_back-requires
 read_back-requires c =
-    let e = lengths_exact (survivors_bytes (desk_of c.args.s c.args.shifts.now)) (packet_bytes (desk_of c.args.s c.args.shifts.now) c.args.i) c.args.packets.now c.args.out.now (passes (goal.at.read_back-requires c).Else-number-ne0) in record {
+    let D = desk_of c.args.s c.args.shifts.now in
+    let e = lengths_exact (survivors_bytes D) (packet_bytes D c.args.i) c.args.packets.now c.args.out.now (passes (goal.at.read_back-requires c).Else-number-ne0) in record {
       ready = c.requires.ready;
       reaches = c.reaches-reaches.ensures;
       survivors = e.0;
@@ -38,5 +45,7 @@ read_back-requires c =
 
 pub returns : goal.returns
 returns c =
+    let D = desk_of c.args.s c.args.shifts.now in
+    let lengths = wanted_lengths_checks D c.args.packets.now c.args.i c.args.out.now in
     let r = c.read_back in
-    answer_goes (wanted_lengths_checks (desk_of c.args.s c.args.shifts.now) c.args.packets.now c.args.i c.args.out.now) (decode_checks (desk_of c.args.s c.args.shifts.now) c.args.packets.now) r.result (numbered_by (wanted_lengths_checks (desk_of c.args.s c.args.shifts.now) c.args.packets.now c.args.i c.args.out.now) refl) (passes (goal.at.returns c).Else-number-ne0) r.ensures
+    answer_goes lengths (decode_checks D c.args.packets.now) r.result (numbered_by lengths refl) (passes (goal.at.returns c).Else-number-ne0) r.ensures

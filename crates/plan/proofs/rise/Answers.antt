@@ -100,7 +100,8 @@ loop-i-preserved c =
     let a = c.args in
     let t = shift_at (desk_of a.s a.shifts.now) a.rows.now a.columns.now a.turned in (
       omega arith,
-      rises_more t a.j _ _ c.shift_at-corner.ensures.0 c.shift_at-top.ensures.0 _ c.loop-i.i _ _ c.shift_at-start.ensures.0 c.shift_at-in-loop-i.ensures.0 c.if-shift_at-corner.false c.loop-i.invariant.1,
+      rises_more t a.j _ _ c.shift_at-corner.ensures.0 c.shift_at-top.ensures.0 _ c.loop-i.i _ _ c.shift_at-start.ensures.0 c.shift_at-in-loop-i.ensures.0 c.if-shift_at-corner.false
+          c.loop-i.invariant.1,
     )
 
 pub returns : goal.returns

@@ -21,7 +21,8 @@ loop-c-preserved c =
     let e = c.args.e in
     let i = c.loop-c.c in
     let x = at c.loop-c.rows (b * row_words + i) in
-    let is : (t : ℕ) → t < 64 → bit x t ≡ row_in rows b (i * 64 + t) = λ t lt. other_word a (up e (row_in rows b)) rows c.loop-c.rows i b i t c.requires.a_nonzero (omega arith) lt c.loop-c.invariant.1 in
+    let is : (t : ℕ) → t < 64 → bit x t ≡ row_in rows b (i * 64 + t) = λ t lt. other_word a (up e (row_in rows b)) rows c.loop-c.rows i b i t c.requires.a_nonzero (omega arith) lt
+    c.loop-c.invariant.1 in
     let small = row_lt rows b in (
       simp length-set c.loop-c.invariant.0,
       add_more a (up e (row_in rows b)) rows c.loop-c.rows i _ (omega (arith, c.loop-c.invariant.0)) (omega arith) c.loop-c.invariant.1

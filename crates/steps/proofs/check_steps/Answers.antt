@@ -34,7 +34,8 @@ returns-then-parities-sources c =
     let lists = unequal_checks x.parities.now x.sources.now in
     let steps = follow_checks D x.parities.now x.sources.now in
     answer_goes cs (lists ++ steps) _ (numbered_by cs refl) (opened_passes c.open_marked-o.ensures c.if-o-ne0.false)
-    (answer_stops lists steps 22 _ (inl ((λ e. omega (arith, e, c.if-parities-sources.true)), refl)) (λ z. omega arith) (omega arith) (told_nowhere D x.parities.now x.sources.now _ 0 (omega arith) refl))
+    (answer_stops lists steps 22 _ (inl ((λ e. omega (arith, e, c.if-parities-sources.true)), refl)) (λ z. omega arith) (omega arith)
+    (told_nowhere D x.parities.now x.sources.now _ 0 (omega arith) refl))
 
 -- the lists are as long as each other
 as_long : (c : Else-parities-sources) → let x = c.args in length x.parities.now ≡ length x.sources.now

@@ -36,7 +36,8 @@ bare : (c : Then-is_bare) → let x = c.args in
 bare c = c.is_bare.ensures.so c.if-is_bare.true
 
 pub overflow_cast-source : goal.overflow_cast-source
-overflow_cast-source c = record { fits = omega (arith, (bare (goal.at.overflow_cast-source c).Then-is_bare).source_is, (bare (goal.at.overflow_cast-source c).Then-is_bare).bare.free.0.0, c.requires.within.k_high) }
+overflow_cast-source c =
+    record { fits = omega (arith, (bare (goal.at.overflow_cast-source c).Then-is_bare).source_is, (bare (goal.at.overflow_cast-source c).Then-is_bare).bare.free.0.0, c.requires.within.k_high) }
 
 pub overflow_sub-source : goal.overflow_sub-source
 overflow_sub-source c = omega (arith, (bare (goal.at.overflow_sub-source c).Then-is_bare).source_is)
@@ -60,7 +61,8 @@ loop-i-preserved c =
     let b = at x.sources.now c.loop-i.i - 1 in
     let raised = at-bump g b (omega (arith, room (goal.at.loop-i-preserved c).Then-is_bare, c.loop-i.invariant.1.size)) in (
       omega arith,
-      following_more (desk_of x.s x.shifts.now) x.parities.now x.sources.now c.loop-i.invariant.1 (omega arith) (omega (arith, c.requires.parities_len)) (bare (goal.at.loop-i-preserved c).Then-is_bare) _
+      following_more (desk_of x.s x.shifts.now) x.parities.now x.sources.now c.loop-i.invariant.1 (omega arith) (omega (arith, c.requires.parities_len))
+          (bare (goal.at.loop-i-preserved c).Then-is_bare) _
           (omega (arith, ap length c.raised-after.ensures, length-set g b (at g b + 1), c.loop-i.invariant.1.size))
           (λ q. omega (arith, ap (λ (h : List ℕ). at h q) c.raised-after.ensures, ap (λ (f : ℕ → ℕ). f q) raised)),
     )

@@ -38,7 +38,8 @@ returns-then-names-2 c =
     let D = desk_of x.s x.shifts.now in
     let g = at x.g.now in
     record {
-      so = λ e. found_bare D g x.parity x.source (a-parity (goal.at.returns-then-names-2 c).Then-names-2) (a-source (goal.at.returns-then-names-2 c).Then-names-2) (sym f.ensures ∙ eqb-true f.result (x.source - 1) e);
+      so = λ e. found_bare D g x.parity x.source (a-parity (goal.at.returns-then-names-2 c).Then-names-2) (a-source (goal.at.returns-then-names-2 c).Then-names-2)
+          (sym f.ensures ∙ eqb-true f.result (x.source - 1) e);
       not_so = λ e B. eqb-false f.result (x.source - 1) e (f.ensures ∙ bare_found D g x.parity x.source B);
     }
 

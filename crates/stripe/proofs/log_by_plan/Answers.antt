@@ -99,7 +99,8 @@ returns-then-made-ne0 c =
     let w = c.sources_bytes-w in
     let D = desk_of x.s x.shifts.now in
     turn_bad D x.stripes x.packets.now x.out.now c.loop-t.t c.loop-t.count c.loop-t.out c.loop-t.invariant.2 (search rules)
-    (c.loop-t.invariant.1 ∙ c.requires.out_len) w.result w.ensures.0 r.result.number r.result.count _ (as_long (goal.at.returns-then-made-ne0 c).After-struct_known-1) (made (goal.at.returns-then-made-ne0 c).After-struct_known-1) (λ z. omega arith)
+    (c.loop-t.invariant.1 ∙ c.requires.out_len) w.result w.ensures.0 r.result.number r.result.count _ (as_long (goal.at.returns-then-made-ne0 c).After-struct_known-1)
+    (made (goal.at.returns-then-made-ne0 c).After-struct_known-1) (λ z. omega arith)
 
 pub shape_of-out-then-made-ne0 : goal.shape_of-out-then-made-ne0
 shape_of-out-then-made-ne0 c = (returns-then-made-ne0 c).written.size
@@ -111,7 +112,8 @@ loop-t-preserved c =
     let w = c.sources_bytes-w in
     let D = desk_of x.s x.shifts.now in
     let more = turn_more D x.stripes x.packets.now x.out.now c.loop-t.t c.loop-t.count c.loop-t.out c.loop-t.invariant.2 (search rules)
-    (c.loop-t.invariant.1 ∙ c.requires.out_len) w.result w.ensures.0 r.result.number r.result.count _ (as_long (goal.at.loop-t-preserved c).After-struct_known-1) (made (goal.at.loop-t-preserved c).After-struct_known-1) (omega arith) in
+    (c.loop-t.invariant.1 ∙ c.requires.out_len) w.result w.ensures.0 r.result.number r.result.count _ (as_long (goal.at.loop-t-preserved c).After-struct_known-1)
+    (made (goal.at.loop-t-preserved c).After-struct_known-1) (omega arith) in
     (omega arith, more.size, more)
 
 pub shape_of-out : goal.shape_of-out

@@ -62,7 +62,8 @@ as_long : (c : After-struct_known-1)
     → let s = c.args in
     length c.stripe_of_lane-read.new.out ≡ sources_bytes (desk_of s.s s.shifts.now)
 as_long c =
-    let part = lent_length c.loop-t.out c.sources_bytes-w.result (sources_bytes (desk_of c.args.s c.args.shifts.now)) c.loop-t.t c.args.stripes c.sources_bytes-w.ensures.0 c.loop-t-test.true (c.loop-t.invariant.1 ∙ c.requires.out_len) in
+    let part = lent_length c.loop-t.out c.sources_bytes-w.result (sources_bytes (desk_of c.args.s c.args.shifts.now)) c.loop-t.t c.args.stripes c.sources_bytes-w.ensures.0 c.loop-t-test.true
+    (c.loop-t.invariant.1 ∙ c.requires.out_len) in
     omega (arith, c.out-1.given, part)
 
 pub returns-then-read-ne0 : goal.returns-then-read-ne0

@@ -97,7 +97,8 @@ pub slice_bounds-sources-end-3 : goal.slice_bounds-sources-end-3
 slice_bounds-sources-end-3 c = fits (read_of (goal.at.slice_bounds-sources-end-3 c).After-sources-2-1) _ _ (size (goal.at.slice_bounds-sources-end-3 c).After-sources-2-1)
 
 pub slice_bounds-stripe_of_candidate-end : goal.slice_bounds-stripe_of_candidate-end
-slice_bounds-stripe_of_candidate-end c = as_long (read_of (goal.at.slice_bounds-stripe_of_candidate-end c).After-sources-2-1) _ _ (size (goal.at.slice_bounds-stripe_of_candidate-end c).After-sources-2-1)
+slice_bounds-stripe_of_candidate-end c =
+    as_long (read_of (goal.at.slice_bounds-stripe_of_candidate-end c).After-sources-2-1) _ _ (size (goal.at.slice_bounds-stripe_of_candidate-end c).After-sources-2-1)
 
 pub slice_bounds-stripe_of_candidate-end-2 : goal.slice_bounds-stripe_of_candidate-end-2
 slice_bounds-stripe_of_candidate-end-2 c = within (start_of (goal.at.slice_bounds-stripe_of_candidate-end-2 c).After-sources-2-1)
@@ -112,7 +113,8 @@ stripe_of_candidate-requires c =
       reaches = s.requires.reaches;
       finishes = lanes_finish (desk_at s) a.packets.now a.stripes a.count a.words.now s.requires.lanes_read;
       survivors = ap length (is-stripe s) ∙ whole;
-      sources_len = sym (as_long (read_of (goal.at.stripe_of_candidate-requires c).After-sources-2-1) _ _ (size (goal.at.stripe_of_candidate-requires c).After-sources-2-1)) ∙ c.sources_bytes-w.ensures.0;
+      sources_len = sym (as_long (read_of (goal.at.stripe_of_candidate-requires c).After-sources-2-1) _ _ (size (goal.at.stripe_of_candidate-requires c).After-sources-2-1))
+          ∙ c.sources_bytes-w.ensures.0;
       by_index = only (goal.at.stripe_of_candidate-requires c).After-sources-2-1 _ c.known.ensures;
       out_len = s.requires.out_len;
     }

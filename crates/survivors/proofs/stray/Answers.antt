@@ -45,7 +45,8 @@ slice_bounds-clear_above-end c = omega (arith, room (goal.at.slice_bounds-clear_
 pub returns-then-not-clear_above : goal.returns-then-not-clear_above
 returns-then-not-clear_above c =
     let s = c.args in
-    tells_so (stray_here s.s s.shifts.now s.packets.now _ _ c.loop-i.invariant.0 c.loop-i-test.true ((told (goal.at.returns-then-not-clear_above c).After-clear_above).not_so c.if-not-clear_above.true))
+    tells_so (stray_here s.s s.shifts.now s.packets.now _ _ c.loop-i.invariant.0 c.loop-i-test.true
+    ((told (goal.at.returns-then-not-clear_above c).After-clear_above).not_so c.if-not-clear_above.true))
 
 pub loop-i-smaller : goal.loop-i-smaller
 loop-i-smaller c = let N = c.next_present-i-in-loop-i.ensures in omega (arith, N.from)

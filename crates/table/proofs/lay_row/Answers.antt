@@ -26,7 +26,8 @@ pub loop-b-preserved : goal.loop-b-preserved
 loop-b-preserved c = (
   omega arith,
   simp length-set c.loop-b.invariant.1,
-  row_laid_more c.args.k c.args.table.now c.args.a c.loop-b.b c.args.shifts.now c.loop-b.shifts (omega (arith, c.loop-b.invariant.1, c.requires.k_le_max_k, c.requires.shifts_len)) c.loop-b.invariant.2,
+  row_laid_more c.args.k c.args.table.now c.args.a c.loop-b.b c.args.shifts.now c.loop-b.shifts (omega (arith, c.loop-b.invariant.1, c.requires.k_le_max_k, c.requires.shifts_len))
+      c.loop-b.invariant.2,
 )
 
 pub shape_of-shifts : goal.shape_of-shifts

@@ -30,7 +30,8 @@ own-checked c =
     of_shape x.k x.m x.l x.table.now (marked_checks x.k x.m x.l x.table.now x.marks) x.marks O.result
     (λ (s : Shape). Checked (progress_checks s.k s.length s.marks x.progress) c.progress_number-number.result) O.ensures c.if-o-ne0.false c.progress_number-number.ensures
 
-rest-answers : (e : Else-o-ne0) (number : ℕ) {R D : Type 0} → let x = e.args in Answered (progress_checks x.k x.l x.marks x.progress) number R D → Answered (marked_checks x.k x.m x.l x.table.now x.marks ++ progress_checks x.k x.l x.marks x.progress) number R D
+rest-answers : (e : Else-o-ne0) (number : ℕ) {R D : Type 0} → let x = e.args in Answered (progress_checks x.k x.l x.marks x.progress) number R D
+    → Answered (marked_checks x.k x.m x.l x.table.now x.marks ++ progress_checks x.k x.l x.marks x.progress) number R D
 rest-answers e number A =
     let x = e.args in
     let O = e.open_marked-o in
@@ -42,7 +43,9 @@ pub returns-then-number-ne0 : goal.returns-then-number-ne0
 returns-then-number-ne0 c =
     let x = c.args in
     let r = c.no_step-then-number-ne0.ensures in
-    rest-answers (goal.at.returns-then-number-ne0 c).Else-o-ne0 _ (answer_refused (progress_checks x.k x.l x.marks x.progress) c.progress_number-number.result _ (own-checked (goal.at.returns-then-number-ne0 c).After-progress_number-number) c.if-number-ne0.true r.0 (r.1, r.2, r.3))
+    rest-answers (goal.at.returns-then-number-ne0 c).Else-o-ne0 _
+    (answer_refused (progress_checks x.k x.l x.marks x.progress) c.progress_number-number.result _ (own-checked (goal.at.returns-then-number-ne0 c).After-progress_number-number)
+    c.if-number-ne0.true r.0 (r.1, r.2, r.3))
 
 pub advance-requires : goal.advance-requires
 advance-requires c =
@@ -62,4 +65,5 @@ returns c =
     let r = c.advance.result in
     let next = at-desk O.ensures c.if-o-ne0.false
     (λ _ D. Next D x.progress r.parity r.source r.progress) c.advance.ensures.1 in
-    rest-answers (goal.at.returns c).Else-o-ne0 _ (answer_done ds _ (zero_checked ds c.progress_number-number.result c.if-number-ne0.false (own-checked (goal.at.returns c).After-progress_number-number)) c.advance.ensures.0 next)
+    rest-answers (goal.at.returns c).Else-o-ne0 _
+    (answer_done ds _ (zero_checked ds c.progress_number-number.result c.if-number-ne0.false (own-checked (goal.at.returns c).After-progress_number-number)) c.advance.ensures.0 next)

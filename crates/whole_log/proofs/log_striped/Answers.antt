@@ -19,17 +19,23 @@ marks_pass c = zero_checked (marks_checks c.args.s.k c.args.s.m c.args.s.marks) 
 
 pub returns-then-few-ne0 : goal.returns-then-few-ne0
 returns-then-few-ne0 c =
+    let D = desk_of c.args.s c.args.shifts.now in
     let r = c.refused.ensures in
-    log_stops (desk_of c.args.s c.args.shifts.now) c.args.stripes c.args.packets.now c.args.out.now (stripes_checks c.args.stripes) ((marks_checks c.args.s.k c.args.s.m c.args.s.marks) ++ (log_lent_checks (desk_of c.args.s c.args.shifts.now) c.args.stripes c.args.packets.now c.args.out.now)) c.stripes_number-few.result _ _ _
+    log_stops D c.args.stripes c.args.packets.now c.args.out.now (stripes_checks c.args.stripes)
+    ((marks_checks c.args.s.k c.args.s.m c.args.s.marks) ++ (log_lent_checks D c.args.stripes c.args.packets.now c.args.out.now)) c.stripes_number-few.result _ _ _
     c.stripes_number-few.ensures c.if-few-ne0.true (stripes_early c.args.stripes _ c.stripes_number-few.ensures) r.0 r.1 r.2
 
 pub returns-then-marked-ne0 : goal.returns-then-marked-ne0
 returns-then-marked-ne0 c =
+    let D = desk_of c.args.s c.args.shifts.now in
+    let lent = log_lent_checks D c.args.stripes c.args.packets.now c.args.out.now in
+    let marks = marks_checks c.args.s.k c.args.s.m c.args.s.marks in
+    let few = stripes_checks c.args.stripes in
     let r = c.refused-then-marked-ne0.ensures in
-    let low = checked_below 8 (marks_checks c.args.s.k c.args.s.m c.args.s.marks) c.marks_number-marked.result (omega arith) (below_by 8 (marks_checks c.args.s.k c.args.s.m c.args.s.marks) refl) c.marks_number-marked.ensures in
-    let stopped = log_stops (desk_of c.args.s c.args.shifts.now) c.args.stripes c.args.packets.now c.args.out.now (marks_checks c.args.s.k c.args.s.m c.args.s.marks) (log_lent_checks (desk_of c.args.s c.args.shifts.now) c.args.stripes c.args.packets.now c.args.out.now) c.marks_number-marked.result _ _ _
+    let low = checked_below 8 marks c.marks_number-marked.result (omega arith) (below_by 8 marks refl) c.marks_number-marked.ensures in
+    let stopped = log_stops D c.args.stripes c.args.packets.now c.args.out.now marks lent c.marks_number-marked.result _ _ _
     c.marks_number-marked.ensures c.if-marked-ne0.true (low_early _ low) r.0 r.1 r.2 in
-    log_goes (desk_of c.args.s c.args.shifts.now) c.args.stripes c.args.packets.now c.args.out.now (stripes_checks c.args.stripes) ((marks_checks c.args.s.k c.args.s.m c.args.s.marks) ++ (log_lent_checks (desk_of c.args.s c.args.shifts.now) c.args.stripes c.args.packets.now c.args.out.now)) _ _ _ _ (numbered_by (stripes_checks c.args.stripes) refl) (few-pass (goal.at.returns-then-marked-ne0 c).Else-few-ne0) stopped
+    log_goes D c.args.stripes c.args.packets.now c.args.out.now few (marks ++ lent) _ _ _ _ (numbered_by few refl) (few-pass (goal.at.returns-then-marked-ne0 c).Else-few-ne0) stopped
 
 pub log_lent-requires : goal.log_lent-requires
 log_lent-requires c =
@@ -42,6 +48,10 @@ log_lent-requires c =
 
 pub returns : goal.returns
 returns c =
+    let D = desk_of c.args.s c.args.shifts.now in
+    let lent = log_lent_checks D c.args.stripes c.args.packets.now c.args.out.now in
+    let marks = marks_checks c.args.s.k c.args.s.m c.args.s.marks in
+    let few = stripes_checks c.args.stripes in
     let r = c.log_lent in
-    let went = log_goes (desk_of c.args.s c.args.shifts.now) c.args.stripes c.args.packets.now c.args.out.now (marks_checks c.args.s.k c.args.s.m c.args.s.marks) (log_lent_checks (desk_of c.args.s c.args.shifts.now) c.args.stripes c.args.packets.now c.args.out.now) _ _ _ _ (numbered_by (marks_checks c.args.s.k c.args.s.m c.args.s.marks) refl) (marks_pass (goal.at.returns c).Else-marked-ne0) r.ensures in
-    log_goes (desk_of c.args.s c.args.shifts.now) c.args.stripes c.args.packets.now c.args.out.now (stripes_checks c.args.stripes) ((marks_checks c.args.s.k c.args.s.m c.args.s.marks) ++ (log_lent_checks (desk_of c.args.s c.args.shifts.now) c.args.stripes c.args.packets.now c.args.out.now)) _ _ _ _ (numbered_by (stripes_checks c.args.stripes) refl) (few-pass (goal.at.returns c).Else-few-ne0) went
+    let went = log_goes D c.args.stripes c.args.packets.now c.args.out.now marks lent _ _ _ _ (numbered_by marks refl) (marks_pass (goal.at.returns c).Else-marked-ne0) r.ensures in
+    log_goes D c.args.stripes c.args.packets.now c.args.out.now few (marks ++ lent) _ _ _ _ (numbered_by few refl) (few-pass (goal.at.returns c).Else-few-ne0) went

@@ -62,13 +62,16 @@ pub shape_of-dest-then-more_of-eq0 : goal.shape_of-dest-then-more_of-eq0
 shape_of-dest-then-more_of-eq0 c = c.put_information-length.auto.dest ∙ joining_length c.loop-at.invariant
 
 pub returns-then-more_of-eq0 : goal.returns-then-more_of-eq0
-returns-then-more_of-eq0 c = joining_ends c.args.run.now c.args.dest.now c.loop-at.invariant (put-told (goal.at.returns-then-more_of-eq0 c).After-put_information-length).1 (sym (more-told (goal.at.returns-then-more_of-eq0 c).After-more_of) ∙ c.if-more_of-eq0.true)
+returns-then-more_of-eq0 c =
+    joining_ends c.args.run.now c.args.dest.now c.loop-at.invariant (put-told (goal.at.returns-then-more_of-eq0 c).After-put_information-length).1
+    (sym (more-told (goal.at.returns-then-more_of-eq0 c).After-more_of) ∙ c.if-more_of-eq0.true)
 
 -- what is left after this block is shorter
 further : (c : Else-more_of-eq0) → c.loop-at.at + (c.put_information-length.result + 4) ≤ length c.args.run.now
 further c =
     let run = c.args.run.now in
-    let put = subst (λ (left : List ℕ). InformationPut c.loop-at.dest c.loop-at.end left c.put_information-length.result c.put_information-length.new.dest) (to_the_end run c.loop-at.at) c.put_information-length.ensures in
+    let put = subst (λ (left : List ℕ). InformationPut c.loop-at.dest c.loop-at.end left c.put_information-length.result c.put_information-length.new.dest) (to_the_end run c.loop-at.at)
+    c.put_information-length.ensures in
     omega (arith, put.0, (opened c.loop-at.invariant.left-run).fits, length-drop c.loop-at.at run, c.loop-at.invariant.inside)
 
 pub overflow_add-end : goal.overflow_add-end
@@ -88,4 +91,5 @@ loop-at-preserved c =
     let run = c.args.run.now in
     let before = c.args.dest.now in
     subst (λ (n : ℕ). Joining run before (c.loop-at.at + (n + 4)) (c.loop-at.end + n) c.put_information-length.new.dest) (sym (put-told (goal.at.loop-at-preserved c).After-put_information-length).0)
-    (joining_goes_on run before c.loop-at.invariant (put-told (goal.at.loop-at-preserved c).After-put_information-length).1 (λ m. c.if-more_of-eq0.false (more-told (goal.at.loop-at-preserved c).After-more_of ∙ m)))
+    (joining_goes_on run before c.loop-at.invariant (put-told (goal.at.loop-at-preserved c).After-put_information-length).1
+    (λ m. c.if-more_of-eq0.false (more-told (goal.at.loop-at-preserved c).After-more_of ∙ m)))

@@ -34,4 +34,5 @@ pub returns-else-turned-ne0 : goal.returns-else-turned-ne0
 returns-else-turned-ne0 c =
     let left = c.args.left.now in
     let turns = turn_checks (sequence_of left) c.args.turn in
-    goes_on turns (end_checks (more_of left) (length (behind left))) _ _ (numbered_by turns refl) (turned (goal.at.returns-else-turned-ne0 c).After-turn_number-turned) c.if-turned-ne0.false (ended (goal.at.returns-else-turned-ne0 c).After-end_number-ended)
+    goes_on turns (end_checks (more_of left) (length (behind left))) _ _ (numbered_by turns refl) (turned (goal.at.returns-else-turned-ne0 c).After-turn_number-turned) c.if-turned-ne0.false
+    (ended (goal.at.returns-else-turned-ne0 c).After-end_number-ended)

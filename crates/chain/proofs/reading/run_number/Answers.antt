@@ -62,7 +62,8 @@ returns-then-block-eq0 c =
     let run = c.args.run.now in
     let t = told (goal.at.returns-then-block-eq0 c).Else-block-ne0 in
     let m : more_of (drop at-loop.at run) ≡ 0 = omega (arith, t.more_is c.if-block-ne0.false, c.if-block-eq0.true) in
-    subst (RunTold run 0) (ap (λ n. at-loop.joined + n) (sym (t.count_is c.if-block-ne0.false))) (checking_ends run c.known.ensures at-loop.invariant (passed-block (goal.at.returns-then-block-eq0 c).Else-block-ne0) m)
+    subst (RunTold run 0) (ap (λ n. at-loop.joined + n) (sym (t.count_is c.if-block-ne0.false)))
+    (checking_ends run c.known.ensures at-loop.invariant (passed-block (goal.at.returns-then-block-eq0 c).Else-block-ne0) m)
 
 pub overflow_add-at : goal.overflow_add-at
 overflow_add-at c = omega (arith, fits (goal.at.overflow_add-at c).Else-block-ne0)

@@ -49,7 +49,8 @@ put_block-requires c =
     let s = c.args in
     let short : length s.packet.now - at-loop.at ≤ s.size = omega (arith, c.loop-at-test.false) in
     let room = last_fits s.size s.packet.now s.dest.now c.requires.packet_in_bounds at-loop.invariant short in
-    rw (to_the_end s.packet.now at-loop.at) (record { info_in_bounds = room; sequence_bound = (at-loop.invariant.turn_bit, omega arith, omega (arith, length-drop at-loop.at s.packet.now, c.requires.le_size)) })
+    rw (to_the_end s.packet.now at-loop.at)
+    (record { info_in_bounds = room; sequence_bound = (at-loop.invariant.turn_bit, omega arith, omega (arith, length-drop at-loop.at s.packet.now, c.requires.le_size)) })
 
 pub shape_of-dest : goal.shape_of-dest
 shape_of-dest c = c.put_block.auto.dest ∙ cutting_length c.args.size c.args.packet.now c.args.dest.now c.requires.packet_in_bounds c.loop-at.invariant

@@ -8,7 +8,8 @@ use Rattle.sheet.proofs.Writings.{Put}
 use Rattle.sheet.proofs.writing.put_others.Given as goal
 
 abbrev pub invariant-loop-i : goal.invariant-loop-i
-invariant-loop-i l = (1 ≤ l.i) × (l.i ≤ l.k) × (length l.ids ≡ max_k) × (length l.out ≡ length l.initial.out) × (l.end + 1 ≤ (id_digits + 1) * l.i) × Put l.initial.out l.start (take l.k l.ids) l.i l.out l.end
+invariant-loop-i l =
+    (1 ≤ l.i) × (l.i ≤ l.k) × (length l.ids ≡ max_k) × (length l.out ≡ length l.initial.out) × (l.end + 1 ≤ (id_digits + 1) * l.i) × Put l.initial.out l.start (take l.k l.ids) l.i l.out l.end
 
 abbrev pub decreases-loop-i : goal.decreases-loop-i
 decreases-loop-i l = l.k - l.i
