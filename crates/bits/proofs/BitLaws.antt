@@ -2,9 +2,9 @@
 use mathlib.Core.Path.{◌≡◌, refl, sym, ap, ap₂, ◌∙◌}
 use mathlib.Core.Logic.{◌⊎◌, inl, inr, ⊎_elim}
 use mathlib.Core.Bool.{true, false}
-use mathlib.Core.List.{List, [], ◌∷◌, ◌++◌, append-nil}
+use mathlib.Core.List.{List, [], ◌∷◌}
 use Prim.Native.Nat.{ℕ, zero, suc, ◌+◌, ◌-◌, ◌*◌, ◌/◌, ◌%◌, ◌^◌, ◌≤◌, ◌<◌}
-use native.Mathlib.Nat.{add-sub_of_le, mul_assoc, zero-add, zero-mul, zero-div, div-eq_of_lt, lt_of_lt_of_le, le_of_lt, le_trans, le_of_suc-le-suc, not-suc-le-zero}
+use native.Mathlib.Nat.{add-sub_of_le, mul_assoc, zero-mul, zero-div, div-eq_of_lt, lt_of_lt_of_le, le_of_lt, le_trans, le_of_suc-le-suc, not-suc-le-zero}
 use native.Mathlib.Numerals.{add-one}
 use native.Mathlib.Omega.{arith}
 use native.Mathlib.Decide.{dec_lt}
@@ -13,7 +13,7 @@ use lib.Dec.{lit<}
 use lib.Bits.{bit_xor, bit_and, and_mask, xor_shr, xor_mod, xor_shifted, xor_zero_r, shifted_even}
 use lib.Pow.{pow_pos, pow-add, pow_mono, shl-shr, shr-shr, field, mod-mod-pow, shl_lt, shl_exact, high, low}
 use lib.ListN.{length, get_or, set, take, drop, replicate, length-take, get_or-eq_default}
-use lib.Seq.{get_or-set_same, get_or-set_other, get_or-take, get_or-drop, ext_get_or, drop-cons, drop-length, take-length, paste-suc}
+use lib.Seq.{get_or-set_same, get_or-set_other, get_or-take, get_or-drop, ext_get_or, drop-cons, drop-length}
 use Rattle.bits.specs.Sums.{one_at}
 use Rattle.bits.specs.Bits.{bit, bit_at, num, Bytes, ClearFrom, Tells, xor_of}
 use Rattle.bits.proofs.SumLaws.{one_at_same, one_at_other}
@@ -136,9 +136,6 @@ bit-digit (suc (suc v)) p q l = absurd (omega arith)
 pub and_one : (n : ℕ) → bit_and n 1 ≡ n % 2
 and_one n = and_mask n 1
 
-pub and_255 : (n : ℕ) → bit_and n 255 ≡ n % 256
-and_255 n = and_mask n 8
-
 -- bytes with the same bits are the same
 pub byte_ext : (a b : ℕ) → a < 2 ^ 8 → b < 2 ^ 8 → ((j : ℕ) → j < 8 → bit a j ≡ bit b j) → a ≡ b
 byte_ext a b ha hb h = bit_ext a b (λ j. ⊎_elim (h j) (λ g. bit_high a 8 j ha g ∙ sym (bit_high b 8 j hb g)) (lt_or_ge j 8))
@@ -176,10 +173,6 @@ pub get_or-zeros : (n k : ℕ) → get_or {A = ℕ} (replicate n 0) k 0 ≡ 0
 get_or-zeros zero k = refl
 get_or-zeros (suc n) zero = refl
 get_or-zeros (suc n) (suc k) = get_or-zeros n k
-
-pub zero_bits : (n q : ℕ) → bit_at (replicate n 0) q ≡ 0
-unfolding bit_at
-zero_bits n q = ap (λ (x : ℕ). bit x (q % 8)) (get_or-zeros n (q / 8)) ∙ bit_zero (q % 8)
 
 pub bytes_take : (xs : List ℕ) → Bytes xs → (i : ℕ) → Bytes (take i xs)
 bytes_take xs h i k =
@@ -245,7 +238,7 @@ bit_at_flip xs p v h lv q =
     (bit_at_xor xs (p / 8) (v * 2 ^ (p % 8)) q (omega arith) (lt_of_lt_of_le (shl_lt 1 (p % 8) lv) (pow_mono {i = 1 + p % 8} {j = 8} (omega arith)))
     ∙ ap (λ (x : ℕ). (bit_at xs q + x) % 2) (ap (λ (x : ℕ). bit x q) there ∙ bit-digit v p q lv))
 
--- ---- a list that is clear from a bit on, filled with 0, copied to, or summed
+-- ---- a list that is clear from a bit on, or summed
 
 pub clear_from : (xs : List ℕ) (n i : ℕ) → get_or xs (n / 8) 0 / 2 ^ (n % 8) ≡ 0 → ((k : ℕ) → n / 8 < k → k < i → get_or xs k 0 ≡ 0) → length xs ≤ i → ClearFrom xs n
 unfolding bit_at
@@ -272,18 +265,6 @@ clear_first xs n h cl =
 pub clear_later : (xs : List ℕ) (n k : ℕ) → get_or xs k 0 < 2 ^ 8 → n / 8 < k → ClearFrom xs n → get_or xs k 0 ≡ 0
 clear_later xs n k h l cl =
     byte_ext (get_or xs k 0) 0 h (lit< tt) (λ j a. sym (bit_at-at xs k j a) ∙ cl (8 * k + j) (omega arith) ∙ sym (bit_zero j))
-
--- all elements of d are filled
-pub filled_all : (d : List ℕ) (v i : ℕ) → i ≡ length d → replicate i v ++ drop i d ≡ replicate (length d) v
-filled_all d v i e = rw (e, drop-length) (append-nil (replicate (length d) v))
-
--- one element more of s at the front of d
-pub front_more : (s d : List ℕ) (i : ℕ) → i < length s → i < length d → set (take i s ++ drop i d) i (get_or s i 0) ≡ take (i + 1) s ++ drop (i + 1) d
-front_more s d i ls ld = rw add-one (simp zero-add at (paste-suc d 0 s i 0 (omega arith) ls))
-
--- all of s is at the front of d
-pub front-all : (s d : List ℕ) (i : ℕ) → i ≡ length s → take i s ++ drop i d ≡ s ++ drop (length s) d
-front-all s d i e = rw (e, take-length)
 
 -- one byte more is taken in
 pub xor_of_more : (x : ℕ) (xs : List ℕ) (i : ℕ) → i < length xs → bit_xor (bit_xor x (get_or xs i 0)) (xor_of (drop (i + 1) xs)) ≡ bit_xor x (xor_of (drop i xs))

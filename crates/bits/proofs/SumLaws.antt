@@ -25,13 +25,6 @@ one_at_times i j x y h = elim (ℕ_discrete i j) [
   | no ne ↦ rw (one_at_other i j ne) (omega arith)
 ]
 
--- the same place, counted from k on
-pub one_at_from : (k i a a' : ℕ) → i ≡ k + a → one_at a a' ≡ one_at i (k + a')
-one_at_from k i a a' e = elim (ℕ_discrete a a') [
-  | yes f ↦ one_at_same a a' f ∙ sym (one_at_same i (k + a') (omega arith))
-  | no nf ↦ one_at_other a a' nf ∙ sym (one_at_other i (k + a') (λ f. nf (omega arith)))
-]
-
 -- one term more in a sum modulo 2
 pub mod_more : (x y d e : ℕ) → x ≡ (y + d) % 2 → (x + e) % 2 ≡ (y + (d + e)) % 2
 mod_more x y d e h = rw (h, mod-add-mod) (ap (λ v. v % 2) (omega arith))

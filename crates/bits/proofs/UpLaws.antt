@@ -1,14 +1,10 @@
 -- Laws of bits shifted up.
 use mathlib.Core.Path.{◌≡◌, sym, ap, ◌∙◌}
-use mathlib.Core.Logic.{⊎_elim}
-use mathlib.Core.List.{List, []}
-use Prim.Native.Nat.{ℕ, ◌+◌, ◌-◌, ◌*◌, ◌^◌, ◌≤◌, ◌<◌}
-use native.Mathlib.Nat.{add-sub_of_le}
+use Prim.Native.Nat.{ℕ, ◌+◌, ◌-◌, ◌≤◌, ◌<◌}
 use native.Mathlib.Omega.{arith}
 use native.Mathlib.Decide.{dec_lt}
 use borrow.Author.Tests.{lt-ltb, le-ltb}
-use Rattle.bits.specs.Bits.{bit, bit_at, num, Bytes, up}
-use Rattle.bits.proofs.BitLaws.{lt_or_ge, bit_shl, bit_shl_low, bit-num, bit_at_past}
+use Rattle.bits.specs.Bits.{up}
 
 pub up_at : (e : ℕ) (f : ℕ → ℕ) (p : ℕ) → up e f (e + p) ≡ f p
 unfolding up
@@ -61,17 +57,3 @@ up_lt e f p h = elim (dec_lt p e) [
   | yes l ↦ rw (up_low e f p l) (omega arith)
   | no l ↦ rw (up_from e f p (omega arith)) (h (p - e))
 ]
-
--- no bits, shifted up
-pub up_none : (e p : ℕ) → up e (bit_at []) p ≡ 0
-up_none e p = elim (dec_lt p e) [
-  | yes l ↦ up_low e (bit_at []) p l
-  | no l ↦ up_high e (bit_at []) 0 p (λ q _. bit_at_past [] q (omega arith)) (omega arith)
-]
-
--- a list's number times 2 ^ e has the list's bits, shifted up by e
-pub bit_up : (xs : List ℕ) → Bytes xs → (e p : ℕ) → bit (num xs * 2 ^ e) p ≡ up e (bit_at xs) p
-bit_up xs h e p = ⊎_elim
-    (λ l. bit_shl_low (num xs) e p l ∙ sym (up_low e (bit_at xs) p l))
-    (λ l. ap (bit (num xs * 2 ^ e)) (sym (add-sub_of_le l)) ∙ bit_shl (num xs) e (p - e) ∙ bit-num xs h (p - e) ∙ sym (up_from e (bit_at xs) p l))
-    (lt_or_ge p e)

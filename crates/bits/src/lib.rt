@@ -26,39 +26,21 @@ pub fn copy_front(dst: &mut [u8], src: &[u8])
     requires { length src.now ≤ length dst.old }
     ensures { dst.new ≡ src.now ++ drop (length src.now) dst.old }
 {
-    let mut i = 0;
-    while i < src.len() {
-        dst[i] = src[i];
-        i += 1;
-    }
+    dst[..src.len()].copy_from_slice(src);
 }
 
 // Whether a and b hold the same bytes.
 pub fn same(a: &[u8], b: &[u8]) -> bool
     ensures { Tells result (a.now ≡ b.now) }
 {
-    if a.len() != b.len() {
-        return false;
-    }
-    let mut i = 0;
-    while i < a.len() {
-        if a[i] != b[i] {
-            return false;
-        }
-        i += 1;
-    }
-    true
+    a == b
 }
 
 // Makes every byte of s 0.
 pub fn clear(s: &mut [u8])
     ensures { s.new ≡ replicate (length s.old) 0 }
 {
-    let mut i = 0;
-    while i < s.len() {
-        s[i] = 0;
-        i += 1;
-    }
+    s.fill(0);
 }
 
 // Whether no bit of s at n or above is set.
@@ -71,12 +53,10 @@ pub fn clear_above(s: &[u8], n: usize) -> bool
             return false;
         }
     }
-    let mut i = b + 1;
-    while i < s.len() {
+    for i in b + 1..s.len() {
         if s[i] != 0 {
             return false;
         }
-        i += 1;
     }
     true
 }
@@ -85,11 +65,9 @@ pub fn clear_above(s: &[u8], n: usize) -> bool
 pub fn xor_all(s: &[u8]) -> u8
     ensures { result ≡ xor_of s.now }
 {
-    let mut x: u8 = 0;
-    let mut i = 0;
-    while i < s.len() {
-        x ^= s[i];
-        i += 1;
+    let mut x = 0;
+    for y in s {
+        x ^= *y;
     }
     x
 }
@@ -97,8 +75,4 @@ pub fn xor_all(s: &[u8]) -> u8
 // No code: what is lent are bytes.
 pub fn known(s: &[u8])
     ensures { Bytes s.now }
-{
-    nothing();
-}
-
-fn nothing() {}
+{}

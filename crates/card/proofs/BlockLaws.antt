@@ -1,15 +1,15 @@
 -- Laws of a block's checks: what each says that refuses nothing. Assumes nothing.
 use mathlib.Core.Path.{◌≡◌, refl, subst}
 use mathlib.Core.Logic.{◌⊎◌, inl, inr}
-use mathlib.Core.List.{List, ◌++◌}
+use mathlib.Core.List.{List}
 use Prim.Native.Nat.{ℕ, ◌+◌, ◌≤◌}
 use native.Mathlib.Omega.{arith}
 use native.Mathlib.Decide.{ℕ_discrete, dec_lt}
-use lib.ListN.{length, drop, length-take, length-drop}
-use Rattle.bits.specs.Bits.{slice, xor_of}
+use lib.ListN.{length, length-take, length-drop}
+use Rattle.bits.specs.Bits.{xor_of}
 use Rattle.table.specs.Checks.{Checked}
 use Rattle.table.proofs.CheckLaws.{numbered_by, passed, zero_passes, not_unequal, neither}
-use Rattle.card.specs.Block.{nad, pcb, len, information, TakenPcb, framing_checks, room_checks, form_checks, block_checks}
+use Rattle.card.specs.Block.{nad, pcb, len, information, TakenPcb, room_checks, form_checks, block_checks}
 
 -- one of two where it is not neither
 or_stable : {P Q : Type 0} → Dec P → (((Q → ⊥) → ⊥) → Q) → ((P ⊎ Q → ⊥) → ⊥) → P ⊎ Q
@@ -19,11 +19,6 @@ or_stable (no n) stable h = inr (stable (λ q. h (neither n q)))
 pub taken_or_not : (p : ℕ) → ((TakenPcb p → ⊥) → ⊥) → TakenPcb p
 taken_or_not p =
     or_stable (ℕ_discrete p 0x00) (or_stable (ℕ_discrete p 0x20) (or_stable (ℕ_discrete p 0x40) not_unequal))
-
-pub long : (block : List ℕ) {n : ℕ} → Checked (framing_checks block) n → n ≡ 0 → 4 ≤ length block
-long block x z =
-    let p = zero_passes (framing_checks block) (numbered_by (framing_checks block) refl) (subst (Checked (framing_checks block)) z x) in
-    elim (dec_lt (length block) 4) [ yes l ↦ absurd (p.0 l) | no n ↦ omega arith ]
 
 -- a block whose form refuses nothing
 pub record Formed (block : List ℕ) : Type 0 where
@@ -54,7 +49,3 @@ fitting block room x z =
 -- the information bytes of a block that is LEN + 4 bytes long are LEN
 pub information-length : (block : List ℕ) → length block ≡ len block + 4 → length (information block) ≡ len block
 information-length block e = simp (length-take, length-drop) (omega arith)
-
--- and where they are laid over the front of a destination, LEN bytes of it are covered
-pub laid_over : (block dest : List ℕ) (n : ℕ) → length block ≡ len block + 4 → n ≡ len block → slice block 3 n ++ drop (length (slice block 3 n)) dest ≡ information block ++ drop (len block) dest
-laid_over block dest n e q = rw q (rw (information-length block e))

@@ -13,7 +13,7 @@ use Rattle.table.proofs.CheckLaws.{numbered_by, zero_passes, not_outside}
 use Rattle.card.specs.Block.{max_information, block_of}
 use Rattle.card.proofs.IBlocks.{made_block, block_length}
 use Rattle.chain.specs.Run.{BlockRun, last, chained}
-use Rattle.chain.specs.Cut.{cut_from, cut_into, blocks_longest, cut_size_checks, write_checks}
+use Rattle.chain.specs.Cut.{cut_from, cut_into, blocks_longest, write_checks}
 
 -- size bytes or fewer are one block without M
 pub cut_last : (n turn size : ℕ) (left : List ℕ) → length left ≤ size → cut_from n turn size left ≡ block_of turn 0 left
@@ -102,11 +102,7 @@ from_run (suc n) turn size left t l s h = elim (dec_le (length left) size) [
 pub cut_is_a_run : (size : ℕ) (packet : List ℕ) → 1 ≤ size → size ≤ max_information → BlockRun 0 (cut_into size packet) packet
 cut_is_a_run size packet l s = from_run (length packet) 0 size packet (omega arith) l s (omega arith)
 
--- a size that is not refused is in its range
-pub size_in_range : (size : ℕ) {n : ℕ} → Checked (cut_size_checks size) n → n ≡ 0 → (1 ≤ size) × (size ≤ max_information)
-size_in_range size c z = not_outside max_information size (zero_passes (cut_size_checks size) (numbered_by (cut_size_checks size) refl) (subst (Checked (cut_size_checks size)) z c)).0
-
--- and where the writer refuses nothing, the blocks fit
+-- where the writer refuses nothing, the size is in its range, and the blocks fit
 pub blocks_fit : (packet : List ℕ) (size room : ℕ) {n : ℕ} → Checked (write_checks packet size room) n → n ≡ 0 → (1 ≤ size) × (size ≤ max_information) × (length (cut_into size packet) ≤ room)
 blocks_fit packet size room c z =
     let p = zero_passes (write_checks packet size room) (numbered_by (write_checks packet size room) refl) (subst (Checked (write_checks packet size room)) z c) in

@@ -1,10 +1,10 @@
 -- How far the writer has come, and one block put together from its bytes. Assumes nothing.
 use mathlib.Core.Path.{◌≡◌, refl, sym, ap, subst, ◌∙◌}
-use mathlib.Core.List.{List, [], ◌++◌, append_assoc}
+use mathlib.Core.List.{List, ◌++◌, append_assoc}
 use Prim.Native.Nat.{ℕ, zero, suc, ◌+◌, ◌-◌, ◌≤◌, ◌<◌}
 use native.Mathlib.Omega.{arith}
 use lib.Bits.{bit_xor, xor_zero_l}
-use lib.ListN.{length, drop, length-append, length-take, length-drop}
+use lib.ListN.{length, drop, length-append, length-drop}
 use lib.Seq.{drop-drop}
 use Rattle.bits.specs.Bits.{slice, xor_of}
 use Rattle.text.specs.Text.{Front, PutAt}
@@ -30,17 +30,9 @@ pub record Cutting (size : ℕ) (packet before : List ℕ) (at end turn : ℕ) (
   pub end_is : end ≡ length done
   pub front : Front before done now
 
-pub cutting_begins : (size : ℕ) (packet before : List ℕ) → Cutting size packet before 0 0 0 before
-cutting_begins size packet before = record {
-  n = length packet;
-  done = [];
-  inside = omega arith;
-  turn_bit = omega arith;
-  enough = omega arith;
-  whole = refl;
-  end_is = refl;
-  front = refl;
-}
+-- the same of what is left
+abbrev pub CuttingLeft : ℕ → List ℕ → List ℕ → List ℕ → ℕ → ℕ → List ℕ → Type 0
+CuttingLeft size packet before left end turn now = (at : ℕ) × (left ≡ drop at packet) × Cutting size packet before at end turn now
 
 module _ (size : ℕ) (packet before : List ℕ) (room : length (cut_into size packet) ≤ length before) {at end turn : ℕ} {now : List ℕ} (s : Cutting size packet before at end turn now) where
   abbrev left : List ℕ
@@ -70,9 +62,6 @@ module _ (size : ℕ) (packet before : List ℕ) (room : length (cut_into size p
   module _ (long : size < length packet - at) where
     cut_front : (n : ℕ) → s.n ≡ suc n → cut_from s.n turn size left ≡ block_of turn 1 (slice packet at size) ++ cut_from n (1 - turn) size (drop size left)
     cut_front n e = ap (λ x. cut_from x turn size left) e ∙ cut_more n turn size left (omega (arith, length-drop at packet))
-
-    pub cut_front_length : length (slice packet at size) ≡ size
-    cut_front_length = simp length-take (omega (arith, length-drop at packet))
 
     abbrev one_less : (n : ℕ) → length packet - at ≤ n → (less : ℕ) × (n ≡ suc less)
     one_less zero e = absurd (omega arith)

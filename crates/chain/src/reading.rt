@@ -1,125 +1,90 @@
 // A run of blocks, looked at from its first block to its last, and then its bytes joined.
 ghost use Rattle.std.specs.Prelude.{◌+◌, ◌≤◌, length};
 ghost use Rattle.table.specs.Checks.{Checked};
+ghost use Rattle.table.specs.Refusals.{told};
 ghost use Rattle.card.specs.Block.{len};
+ghost use Rattle.card.specs.Taken.{flag};
 ghost use Rattle.chain.specs.Run.{first_checks, turn_checks, end_checks, link_checks};
 ghost use Rattle.chain.specs.Reading.{BlockTold, RunTold, InformationPut, Fits, CarriedTo};
 
-use table::Number;
+use table::Refusal;
 
-// The first block of what is left: its number, and with number 0 M and how many bytes it carries.
+// The first block of what is left: M, and how many bytes it carries.
 #[derive(Clone, Copy)]
-struct BlockAnswer {
-    number: u64,
-    more: u64,
+struct Block {
+    more: bool,
     length: usize,
 }
 
-// A run: its number, and with number 0 how many bytes it carries.
-#[derive(Clone, Copy)]
-pub struct RunAnswer {
-    pub number: u64,
-    pub length: usize,
-}
-
 // 11 to 15 of the first block of what is left.
-fn first_number(left: &[u8]) -> u64
-    ensures { Checked (first_checks left.now) result }
+fn check_first(left: &[u8]) -> Result<(), Refusal>
+    ensures { Checked (first_checks left.now) (told result) }
 {
-    let framing = card::framing_number(left);
-    if framing != 0 {
-        return framing;
-    }
+    card::check_framing(left)?;
     let end = card::information_length(left) + 4;
     if left.len() < end {
-        return Number::BLOCK_LENGTH;
+        return Err(Refusal::BlockLength);
     }
-    card::content_number(&left[..end])
+    card::check_content(&left[..end])
 }
 
 // 20, for N(S) and the turn.
-fn turn_number(sequence: u64, turn: u64) -> u64
-    ensures { Checked (turn_checks sequence turn) result }
+fn check_turn(sequence: u64, turn: u64) -> Result<(), Refusal>
+    ensures { Checked (turn_checks sequence turn) (told result) }
 {
     if sequence != turn {
-        return Number::BLOCK_TURN;
+        return Err(Refusal::BlockTurn);
     }
-    0
+    Ok(())
 }
 
 // 21, for M and so many bytes behind the block.
-fn end_number(more: u64, bytes: usize) -> u64
-    requires { more ≤ 1 }
-    ensures { Checked (end_checks more bytes) result }
+fn check_end(more: bool, bytes: usize) -> Result<(), Refusal>
+    ensures { Checked (end_checks (flag more) bytes) (told result) }
 {
-    if more == 0 {
-        if bytes != 0 {
-            return Number::BLOCK_END;
-        }
-        return 0;
+    if more == (bytes == 0) {
+        return Err(Refusal::BlockEnd);
     }
-    if bytes == 0 {
-        return Number::BLOCK_END;
-    }
-    0
+    Ok(())
 }
 
-// 20 and 21 of the first block of what is left. Both are asked, and 20 goes first.
-fn link_number(left: &[u8], turn: u64) -> u64
+// 20 and 21 of the first block of what is left.
+fn check_link(left: &[u8], turn: u64) -> Result<(), Refusal>
     requires { len left.now + 4 ≤ length left.now }
-    ensures { Checked (link_checks turn left.now) result }
+    ensures { Checked (link_checks turn left.now) (told result) }
 {
-    let turned = turn_number(card::sequence_of(left), turn);
-    let ended = end_number(
-        card::more_of(left),
-        left.len() - card::information_length(left) - 4,
-    );
-    if turned != 0 { turned } else { ended }
+    let bytes = left.len() - card::information_length(left) - 4;
+    check_turn(card::sequence_of(left), turn)?;
+    check_end(card::more_of(left), bytes)
 }
 
 // 11 to 21 of the first block of what is left.
-fn block_number(left: &[u8], turn: u64) -> BlockAnswer
-    ensures { BlockTold turn left.now result.number result.more result.length }
+fn check_block(left: &[u8], turn: u64) -> Result<Block, Refusal>
+    ensures { BlockTold turn left.now result }
 {
-    let first = first_number(left);
-    if first != 0 {
-        return BlockAnswer {
-            number: first,
-            more: 0,
-            length: 0,
-        };
-    }
-    BlockAnswer {
-        number: link_number(left, turn),
+    check_first(left)?;
+    check_link(left, turn)?;
+    Ok(Block {
         more: card::more_of(left),
         length: card::information_length(left),
-    }
+    })
 }
 
-// 11 to 21 of all blocks of a run, one after another, from N(S) = 0 on.
-pub fn run_number(run: &[u8]) -> RunAnswer
-    ensures { RunTold run.now result.number result.length }
+// 11 to 21 of all blocks of a run, one after another, from N(S) = 0 on, and how many bytes they carry.
+pub fn check_run(run: &[u8]) -> Result<usize, Refusal>
+    ensures { RunTold run.now result }
 {
     bits::known(run);
-    let mut at = 0;
+    let mut left = run;
     let mut turn = 0;
     let mut joined = 0;
     loop {
-        let block = block_number(&run[at..], turn);
-        if block.number != 0 {
-            return RunAnswer {
-                number: block.number,
-                length: 0,
-            };
-        }
+        let block = check_block(left, turn)?;
         joined += block.length;
-        if block.more == 0 {
-            return RunAnswer {
-                number: 0,
-                length: joined,
-            };
+        if !block.more {
+            return Ok(joined);
         }
-        at += block.length + 4;
+        left = &left[block.length + 4..];
         turn = 1 - turn;
     }
 }
@@ -141,14 +106,14 @@ pub fn join(run: &[u8], dest: &mut [u8])
     requires { Fits run.now (length dest.old) }
     ensures { CarriedTo run.now dest.old dest.new }
 {
-    let mut at = 0;
+    let mut left = run;
     let mut end = 0;
     loop {
-        let length = put_information(dest, end, &run[at..]);
-        if card::more_of(&run[at..]) == 0 {
+        let length = put_information(dest, end, left);
+        if !card::more_of(left) {
             return;
         }
         end += length;
-        at += length + 4;
+        left = &left[length + 4..];
     }
 }

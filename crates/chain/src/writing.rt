@@ -2,24 +2,25 @@
 ghost use Rattle.std.specs.Prelude.{◌≡◌, ◌+◌, ◌≤◌, ◌<◌, length};
 ghost use Rattle.table.specs.Limits.{longest};
 ghost use Rattle.table.specs.Checks.{Checked};
+ghost use Rattle.table.specs.Refusals.{told};
 ghost use Rattle.card.specs.Block.{max_information};
 ghost use Rattle.chain.specs.Cut.{cut_size_checks, cut_into, write_checks};
 ghost use Rattle.chain.specs.Writing.{BlockPut, BlocksPut};
 
 use crate::Blocks;
-use table::{Number, Table};
+use table::{Refusal, Table};
 
 // 36.
-fn cut_size_number(size: u64) -> u64
-    ensures { Checked (cut_size_checks size) result }
+fn check_cut_size(size: u64) -> Result<(), Refusal>
+    ensures { Checked (cut_size_checks size) (told result) }
 {
     if size < 1 {
-        return Number::CUT;
+        return Err(Refusal::Cut);
     }
     if Blocks::MAX_INFORMATION < size {
-        return Number::CUT;
+        return Err(Refusal::Cut);
     }
-    0
+    Ok(())
 }
 
 // The bytes of all blocks of a packet, of which there is one even where it is empty.
@@ -34,20 +35,17 @@ fn blocks_length(packet: &[u8], size: usize) -> usize
 }
 
 // 36, 4 and 16.
-pub fn write_number(packet: &[u8], size: u64, room: usize) -> u64
-    ensures { Checked (write_checks packet.now size room) result }
+pub fn check_write(packet: &[u8], size: u64, room: usize) -> Result<(), Refusal>
+    ensures { Checked (write_checks packet.now size room) (told result) }
 {
-    let number = cut_size_number(size);
-    if number != 0 {
-        return number;
-    }
+    check_cut_size(size)?;
     if Table::LONGEST < packet.len() {
-        return Number::INPUT;
+        return Err(Refusal::Input);
     }
     if room < blocks_length(packet, size as usize) {
-        return Number::ROOM;
+        return Err(Refusal::Room);
     }
-    0
+    Ok(())
 }
 
 // Puts one block behind what stands before at: NAD, PCB, LEN, the information bytes, and the XOR of all.
@@ -72,14 +70,13 @@ pub fn cut(packet: &[u8], size: usize, dest: &mut [u8]) -> usize
     requires packet_in_bounds { length (cut_into size packet.now) ≤ length dest.old }
     ensures { BlocksPut size packet.now dest.old result dest.new }
 {
-    let mut at = 0;
+    let mut left = packet;
     let mut end = 0;
     let mut turn: u8 = 0;
-    while size < packet.len() - at {
-        let next = at + size;
-        end = put_block(dest, end, turn, 1, &packet[at..next]);
-        at = next;
+    while size < left.len() {
+        end = put_block(dest, end, turn, 1, &left[..size]);
+        left = &left[size..];
         turn = 1 - turn;
     }
-    put_block(dest, end, turn, 0, &packet[at..])
+    put_block(dest, end, turn, 0, left)
 }

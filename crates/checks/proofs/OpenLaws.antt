@@ -1,98 +1,60 @@
--- Laws of an opened call: from its checks to its shape, its table and its desk. Assumes nothing.
-use mathlib.Core.Path.{◌≡◌, refl, sym, ap, ◌∙◌, subst}
+-- Laws of an opened call: from its checks to its desk. Assumes nothing.
+use mathlib.Core.Path.{◌≡◌, sym, ap, ◌∙◌, subst}
 use mathlib.Core.List.{List, ◌++◌}
 use Prim.Native.Nat.{ℕ, ◌+◌, ◌/◌, ◌^◌}
-use lib.ListN.{length}
-use Rattle.table.specs.Limits.{cells}
-use Rattle.table.specs.Desk.{Desk, desk, mark, source_bits, source_bytes}
-use Rattle.table.specs.Table.{Within, Ready, desk_of}
-use Rattle.table.specs.Checks.{Checks, Checked, Answered, shape_checks, marked_checks}
-use Rattle.table.specs.declared.Shape.{Shape}
-use Rattle.table.proofs.CheckLaws.{Numbered, zero_checked, stops, goes}
-use Rattle.table.proofs.AnswerLaws.{answer_stops, answer_goes}
-use Rattle.table.proofs.ShapeLaws.{shaped, marked_below}
-use Rattle.table.proofs.TableLaws.{CellsAre, laid_entries, laid_low}
+use borrow.Author.Rules.{rules}
+use Rattle.std.specs.Prelude.{Err}
+use Rattle.table.specs.Desk.{Desk, desk, entry, mark, source_bits, source_bytes}
+use Rattle.table.specs.Desks.{Stands, Ready, desk_of}
+use Rattle.table.specs.Checks.{Checks, Checked, Answered, marked_checks}
+use Rattle.table.specs.Refusals.{number_of}
+use Rattle.table.specs.declared.desks.Desk as laid
+use Rattle.table.specs.declared.refusals.Refusal.{Refusal}
+use Rattle.table.proofs.CheckLaws.{Numbered, stops}
+use Rattle.table.proofs.AnswerLaws.{answer_goes}
+use Rattle.table.proofs.RefusalLaws.{numbered, refused_stops}
+use Rattle.table.proofs.ShapeLaws.{marked_below}
 use Rattle.checks.specs.Opening.{Opens}
-use Rattle.checks.specs.declared.Opened.{Opened}
 
--- a refused call
-pub refused_opens : {cs : Checks} {k m l : ℕ} {table : List ℕ} {marks : ℕ} {o : Opened} {n : ℕ} → Checked cs n → (n ≡ 0 → ⊥) → o.number ≡ n → Within o.shape o.table.shifts
-    → Opens cs k m l table marks o
-refused_opens {cs} c h e w = record {
-  numbered = subst (Checked cs) (sym e) c;
-  within = w;
-  formed = λ z. absurd (h (sym e ∙ z));
-  held = λ z. absurd (h (sym e ∙ z));
-}
+-- a refused call was given no desk
+pub opens_refused : {cs : Checks} {k m l : ℕ} {table : List ℕ} {marks : ℕ} (e : Refusal) → Checked cs (number_of e) → Opens cs k m l table marks (Err e)
+opens_refused e c = record { numbered = c; accepted = λ o z. absurd (search rules) }
 
--- an accepted call whose table was laid out
-pub laid_opens : (k m l : ℕ) (table : List ℕ) (marks : ℕ) (shifts : List ℕ) → Checked (shape_checks k m l table) 0 → length shifts ≡ cells → CellsAre k table shifts
-    → Opens (shape_checks k m l table) k m l table marks (record {
-      number = 0;
-      shape = record { k = k; m = m; length = l; marks = marks };
-      table = record { k = k; m = m; shifts = shifts };
-    })
-laid_opens k m l table marks shifts c all are =
-    let z = shaped k m l table c in
-    let low = laid_low k table shifts all z.low are in
-    record {
-      numbered = c;
-      within = record { k_low = z.k_low; k_high = z.k_high; m_low = z.m_low; m_high = z.m_high; l_low = z.l_low; l_high = z.l_high; low = low };
-      formed = λ _. refl;
-      held = λ _. record { k_is = refl; m_is = refl; laid = laid_entries k m table shifts z.k_high z.m_high z.size all are; low = low };
-    }
-
-module _ (k m l : ℕ) (table : List ℕ) where
-  -- checks of the shape that came are checks of the numbers
-  pub of_shape : (cs : Checks) (marks : ℕ) (o : Opened) (P : Shape → Type 0) → Opens cs k m l table marks o → o.number ≡ 0 → P o.shape → P (record { k = k; m = m; length = l; marks = marks })
-  of_shape cs marks o P O z x = subst P (O.formed z) x
-
-  -- accepted marks are all below n
-  pub opened_below : (marks : ℕ) (o : Opened) → Opens (marked_checks k m l table marks) k m l table marks o → o.number ≡ 0 → o.shape.marks / 2 ^ (o.shape.k + o.shape.m) ≡ 0
-  opened_below marks o O z =
-      subst (λ s. s.marks / 2 ^ (s.k + s.m) ≡ 0) (sym (O.formed z)) (marked_below k m l table marks (subst (Checked (marked_checks k m l table marks)) z O.numbered))
-
-  -- an accepted call's desk is that of its numbers, table and marks
-  pub desk_opened : (cs : Checks) (marks : ℕ) (o : Opened) → Opens cs k m l table marks o → o.number ≡ 0 → desk_of o.shape o.table.shifts ≡ desk k m l table marks
-  desk_opened cs marks o O z =
-      ap (λ s. desk_of s o.table.shifts) (O.formed z)
-      ∙ ap (λ f. record { k = k; m = m; bits = source_bits l; bytes = source_bytes l; shift = f; present = mark marks }) (O.held z).laid
-
--- From what is left of a call once its shape is accepted to the whole call.
-module _ {cs : Checks} {k m l : ℕ} {table : List ℕ} {marks : ℕ} {o : Opened} (O : Opens cs k m l table marks o) where
+-- the checks, and those after them, of a call that is refused
+module _ {cs : Checks} {k m l : ℕ} {table : List ℕ} {marks : ℕ} (e : Refusal) (O : Opens cs k m l table marks (Err e)) where
   -- refused with its shape
-  pub opened_stops : (ds : Checks) (number : ℕ) {R D : Type 0} → (o.number ≡ 0 → ⊥) → number ≡ o.number → R → Answered (cs ++ ds) number R D
-  opened_stops ds number h e r = answer_stops cs ds o.number number O.numbered h e r
+  pub opened_stops : (ds : Checks) {R D : Type 0} → R → Answered (cs ++ ds) (number_of e) R D
+  opened_stops ds x = refused_stops cs ds e O.numbered x
 
   -- more checks: none is asked after a refusal
-  pub opens_stops : (ds : Checks) → (o.number ≡ 0 → ⊥) → Opens (cs ++ ds) k m l table marks o
-  opens_stops ds h = record { numbered = stops cs ds o.number O.numbered h; within = O.within; formed = O.formed; held = O.held }
+  pub opens_stops : (ds : Checks) → Opens (cs ++ ds) k m l table marks (Err e)
+  opens_stops ds = record { numbered = stops cs ds (number_of e) O.numbered (numbered e); accepted = λ o z. O.accepted o z }
 
-  module _ (z : o.number ≡ 0) where
-    pub opened_passes : Checked cs 0
-    opened_passes = zero_checked cs o.number z O.numbered
+module _ {k m l : ℕ} {table : List ℕ} {marks : ℕ} {d : laid.Desk} (S : Stands k m l table marks d) where
+  -- what holds of the desk's numbers and marks holds of the call's
+  pub of_numbers : (P : ℕ → ℕ → ℕ → ℕ → Type 0) → P d.k d.m d.length d.marks → P k m l marks
+  of_numbers P x =
+      subst (λ n. P n m l marks) S.k_is
+      (subst (λ n. P d.k n l marks) S.m_is (subst (λ n. P d.k d.m n marks) S.length_is (subst (λ n. P d.k d.m d.length n) S.marks_are x)))
 
-    -- more checks, and none refuses
-    pub opens_goes : (ds : Checks) → Numbered cs → Checked ds 0 → Opens (cs ++ ds) k m l table marks o
-    opens_goes ds p d = record {
-      numbered = subst (Checked (cs ++ ds)) (sym z) (goes cs ds 0 p opened_passes d);
-      within = O.within;
-      formed = O.formed;
-      held = O.held;
-    }
+  -- an accepted call's desk is that of its numbers, table and marks
+  pub desk_opened : desk_of d ≡ desk k m l table marks
+  desk_opened =
+      of_numbers (λ k' m' l' marks'. desk_of d ≡ desk k' m' l' table marks')
+      (ap (λ f. record { k = d.k; m = d.m; bits = source_bits d.length; bytes = source_bytes d.length; shift = f; present = mark d.marks }) (S.shifts_are ∙ ap (λ n. entry n table) (sym S.k_is)))
 
-    -- what holds of the opened marks and desk holds of the call's
-    pub at-desk : (P : ℕ → Desk → Type 0) → P o.shape.marks (desk_of o.shape o.table.shifts) → P marks (desk k m l table marks)
-    at-desk P x =
-        let y = subst (λ (s : Shape). P s.marks (desk_of o.shape o.table.shifts)) (O.formed z) x in
-        subst (P marks) (desk_opened k m l table cs marks o O z) y
+  -- what holds of the opened marks and desk holds of the call's
+  pub at-desk : (P : ℕ → Desk → Type 0) → P d.marks (desk_of d) → P marks (desk k m l table marks)
+  at-desk P x = subst (λ n. P n (desk k m l table marks)) S.marks_are (subst (P d.marks) desk_opened x)
 
-    -- accepted, and what is left is answered over the opened desk
-    pub opened_goes : Numbered cs → (ds : ℕ → Desk → Checks) (R D : Desk → Type 0) (number : ℕ)
-        → Answered (ds o.shape.marks (desk_of o.shape o.table.shifts)) number (R (desk_of o.shape o.table.shifts)) (D (desk_of o.shape o.table.shifts))
-        → Answered (cs ++ ds marks (desk k m l table marks)) number (R (desk k m l table marks)) (D (desk k m l table marks))
-    opened_goes p ds R D number A = answer_goes cs (ds marks (desk k m l table marks)) number p opened_passes (at-desk (λ x E. Answered (ds x E) number (R E) (D E)) A)
+  -- accepted, and what is left is answered over the opened desk
+  pub opened_goes : (cs : Checks) → Numbered cs → Checked cs 0 → (ds : ℕ → Desk → Checks) (R D : Desk → Type 0) (number : ℕ)
+      → Answered (ds d.marks (desk_of d)) number (R (desk_of d)) (D (desk_of d))
+      → Answered (cs ++ ds marks (desk k m l table marks)) number (R (desk k m l table marks)) (D (desk k m l table marks))
+  opened_goes cs p c ds R D number x = answer_goes cs (ds marks (desk k m l table marks)) number p c (at-desk (λ y E. Answered (ds y E) number (R E) (D E)) x)
 
--- accepted with its marks, the shape is ready
-pub opened_ready : {k m l : ℕ} {table : List ℕ} {marks : ℕ} {o : Opened} → Opens (marked_checks k m l table marks) k m l table marks o → o.number ≡ 0 → Ready o.shape o.table.shifts
-opened_ready {k} {m} {l} {table} {marks} {o} O z = record { within = O.within; none_above = opened_below k m l table marks o O z }
+  -- accepted with its marks, no mark stands above the packets
+  pub opened_ready : Checked (marked_checks k m l table marks) 0 → Ready d
+  opened_ready c =
+      subst (λ n. n / 2 ^ (d.k + d.m) ≡ 0) (sym S.marks_are)
+      (subst (λ n. marks / 2 ^ (n + d.m) ≡ 0) (sym S.k_is) (subst (λ n. marks / 2 ^ (k + n) ≡ 0) (sym S.m_is) (marked_below k m l table marks c)))

@@ -1,226 +1,175 @@
-// The checks that calls share: the numbers of the shape, and the shape and table that they accept.
+// The checks that calls share, and the desk of what they accept.
 #![tactic(auto)]
 
 ghost use Rattle.std.specs.Prelude.{◌≡◌, ◌++◌, ℕ, ◌≤◌, ◌<◌};
 ghost use Rattle.bits.specs.Sums.{at};
 ghost use Rattle.bits.specs.Bits.{Tells};
-ghost use Rattle.table.specs.Limits.{max_k, max_m, max_length, max_shift};
-ghost use Rattle.table.specs.Table.{Within, room_of};
+ghost use Rattle.table.specs.Limits.{max_k, max_m, max_shift};
+ghost use Rattle.table.specs.Table.{room_of};
 ghost use Rattle.table.specs.Checks.{Checked, size_checks, length_checks, table_checks, number_checks, marks_checks, shape_checks, marked_checks};
 ghost use Rattle.table.specs.Checks.{asked_checks, progress_checks, input_checks, output_checks};
+ghost use Rattle.table.specs.Refusals.{told};
 ghost use Rattle.checks.specs.Opening.{Opens};
 
-use table::{Number, Shape, Table};
-
-// What the checks give: a number, and with number 0 the shape and its table.
-#[derive(Clone, Copy)]
-pub struct Opened {
-    pub number: u64,
-    pub shape: Shape,
-    pub table: Table,
-}
+use table::{Desk, Refusal, Table};
 
 // Whether every entry is a shift that is taken.
 fn low(table: &[u8]) -> bool
     ensures { Tells result ((i : ℕ) → at table.now i ≤ max_shift) }
 {
-    let mut i = 0;
-    while i < table.len() {
-        if Table::MAX_SHIFT < table[i] {
+    for x in table {
+        if Table::MAX_SHIFT < *x {
             return false;
         }
-        i += 1;
     }
     true
 }
 
 // 1.
-pub fn size_number(k: u64, m: u64) -> u64
-    ensures { Checked (size_checks k m) result }
+pub fn check_size(k: u64, m: u64) -> Result<(), Refusal>
+    ensures { Checked (size_checks k m) (told result) }
 {
     if k < 1 {
-        return Number::SIZE;
+        return Err(Refusal::Size);
     }
     if Table::MAX_K < k {
-        return Number::SIZE;
+        return Err(Refusal::Size);
     }
     if m < 1 {
-        return Number::SIZE;
+        return Err(Refusal::Size);
     }
     if Table::MAX_M < m {
-        return Number::SIZE;
+        return Err(Refusal::Size);
     }
-    0
+    Ok(())
 }
 
 // 2.
-pub fn length_number(l: u64) -> u64
-    ensures { Checked (length_checks l) result }
+pub fn check_length(l: u64) -> Result<(), Refusal>
+    ensures { Checked (length_checks l) (told result) }
 {
     if l < 1 {
-        return Number::LENGTH;
+        return Err(Refusal::Length);
     }
     if Table::MAX_LENGTH < l {
-        return Number::LENGTH;
+        return Err(Refusal::Length);
     }
-    0
+    Ok(())
 }
 
 // 3.
-pub fn table_number(k: u64, m: u64, table: &[u8]) -> u64
+pub fn check_table(k: u64, m: u64, table: &[u8]) -> Result<(), Refusal>
     requires { (k ≤ max_k) × (m ≤ max_m) }
-    ensures { Checked (table_checks k m table.now) result }
+    ensures { Checked (table_checks k m table.now) (told result) }
 {
     if table.len() as u64 != m * k {
-        return Number::TABLE;
+        return Err(Refusal::Table);
     }
-    if low(table) { 0 } else { Number::TABLE }
+    if low(table) {
+        Ok(())
+    } else {
+        Err(Refusal::Table)
+    }
 }
 
 // 6, for a number that is to be one of 1 to n.
-pub fn one_of(n: u64, i: u64) -> u64
-    ensures { Checked (number_checks n i) result }
+pub fn check_one_of(n: u64, i: u64) -> Result<(), Refusal>
+    ensures { Checked (number_checks n i) (told result) }
 {
     if i < 1 {
-        return Number::PACKET;
+        return Err(Refusal::Packet);
     }
     if n < i {
-        return Number::PACKET;
+        return Err(Refusal::Packet);
     }
-    0
+    Ok(())
 }
 
 // 6 and 7.
-pub fn marks_number(k: usize, m: usize, marks: u64) -> u64
+pub fn check_marks(k: usize, m: usize, marks: u64) -> Result<(), Refusal>
     requires { (k ≤ max_k) × (m ≤ max_m) }
-    ensures { Checked (marks_checks k m marks) result }
+    ensures { Checked (marks_checks k m marks) (told result) }
 {
     if marks >> (k + m) != 0 {
-        return Number::PACKET;
+        return Err(Refusal::Packet);
     }
-    if u64::count_ones(marks) as usize != k {
-        return Number::MARKS;
+    if marks.count_ones() as usize != k {
+        return Err(Refusal::Marks);
     }
-    0
+    Ok(())
 }
 
 // 6 and 7, with 6 for a number, from 1, that is to be one of `among` too.
-pub fn asked_number(s: Shape, among: usize, i: u64) -> u64
-    requires { (s.k ≤ max_k) × (s.m ≤ max_m) }
-    ensures { Checked (asked_checks s.k s.m s.marks among i) result }
+pub fn check_asked(k: usize, m: usize, marks: u64, among: usize, i: u64) -> Result<(), Refusal>
+    requires { (k ≤ max_k) × (m ≤ max_m) }
+    ensures { Checked (asked_checks k m marks among i) (told result) }
 {
-    let number = one_of(among as u64, i);
-    if number != 0 {
-        return number;
-    }
-    marks_number(s.k, s.m, s.marks)
+    check_one_of(among as u64, i)?;
+    check_marks(k, m, marks)
 }
 
 // 4 and 5: what a call lends is as long as it has to be.
-pub fn lengths_number(input: &[u8], needed: usize, output: &[u8], room: usize) -> u64
-    ensures { Checked (input_checks needed input.now ++ output_checks room output.now) result }
+pub fn check_lengths(input: &[u8], needed: usize, output: &[u8], room: usize) -> Result<(), Refusal>
+    ensures { Checked (input_checks needed input.now ++ output_checks room output.now) (told result) }
 {
     if input.len() != needed {
-        return Number::INPUT;
+        return Err(Refusal::Input);
     }
     if output.len() != room {
-        return Number::OUTPUT;
+        return Err(Refusal::Output);
     }
-    0
+    Ok(())
 }
 
 // The progress that source c, from 0, may have: up to its bits where it is missing, else none.
-fn room(s: Shape, c: usize) -> u64
-    requires { (s.length ≤ max_length) × (c < max_k) }
-    ensures { result ≡ room_of s.k s.length s.marks c }
+fn room(desk: &Desk, c: usize) -> u64
+    requires { c < max_k }
+    ensures { result ≡ room_of desk.now.k desk.now.length desk.now.marks c }
 {
-    if s.k <= c {
+    if desk.k <= c {
         return 0;
     }
-    if table::marked(s.marks, c) {
+    if table::marked(desk.marks, c) {
         return 0;
     }
-    table::source_bits(s) as u64
+    desk.source_bits() as u64
 }
 
 // 17.
-pub fn progress_number(s: Shape, progress: &[u64; Table::SOURCES]) -> u64
-    requires { s.length ≤ max_length }
-    ensures { Checked (progress_checks s.k s.length s.marks progress.now) result }
+pub fn check_progress(desk: &Desk, progress: &[u64; Table::SOURCES]) -> Result<(), Refusal>
+    ensures { Checked (progress_checks desk.now.k desk.now.length desk.now.marks progress.now) (told result) }
 {
-    let mut c = 0;
-    while c < Table::SOURCES {
-        if room(s, c) < progress[c] {
-            return Number::PROGRESS;
+    for c in 0..Table::SOURCES {
+        if room(desk, c) < progress[c] {
+            return Err(Refusal::Progress);
         }
-        c += 1;
     }
-    0
-}
-
-// What stands where a call is refused.
-fn refused(number: u64) -> Opened
-    ensures { (result.number ≡ number) × Within result.shape result.table.shifts }
-{
-    Opened {
-        number,
-        shape: Shape {
-            k: 1,
-            m: 1,
-            length: 1,
-            marks: 0,
-        },
-        table: Table::least(),
-    }
+    Ok(())
 }
 
 // 1, 2 and 3.
-pub fn shape_number(k: u64, m: u64, l: u64, table: &[u8]) -> u64
-    ensures { Checked (shape_checks k m l table.now) result }
+pub fn check_shape(k: u64, m: u64, l: u64, table: &[u8]) -> Result<(), Refusal>
+    ensures { Checked (shape_checks k m l table.now) (told result) }
 {
-    let size = size_number(k, m);
-    if size != 0 {
-        return size;
-    }
-    let length = length_number(l);
-    if length != 0 {
-        return length;
-    }
-    table_number(k, m, table)
+    check_size(k, m)?;
+    check_length(l)?;
+    check_table(k, m, table)
 }
 
-// Checks 1, 2 and 3, the shape with its marks as they came, and the table.
-pub fn open_shape(k: u64, m: u64, l: u64, table: &[u8], marks: u64) -> Opened
-    ensures { Opens (shape_checks k m l table.now) k m l table.now marks result }
+// Checks 1, 2 and 3, and the desk of what they accept, with no packets at hand.
+pub fn open_shape(k: u64, m: u64, l: u64, table: &[u8]) -> Result<Desk, Refusal>
+    ensures { Opens (shape_checks k m l table.now) k m l table.now 0 result }
 {
-    let number = shape_number(k, m, l, table);
-    if number != 0 {
-        return refused(number);
-    }
-    Opened {
-        number: 0,
-        shape: Shape {
-            k: k as usize,
-            m: m as usize,
-            length: l as usize,
-            marks,
-        },
-        table: Table::new(k, m, table),
-    }
+    check_shape(k, m, l, table)?;
+    Ok(Desk::new(k, m, l, table))
 }
 
-// Checks 1, 2, 3, 6 and 7, the shape and the table.
-pub fn open_marked(k: u64, m: u64, l: u64, table: &[u8], marks: u64) -> Opened
+// Checks 1, 2, 3, 6 and 7, and the desk of what they accept.
+pub fn open_marked(k: u64, m: u64, l: u64, table: &[u8], marks: u64) -> Result<Desk, Refusal>
     ensures { Opens (marked_checks k m l table.now marks) k m l table.now marks result }
 {
-    let o = open_shape(k, m, l, table, marks);
-    if o.number != 0 {
-        return o;
-    }
-    let s = o.shape;
-    let number = marks_number(s.k, s.m, marks);
-    if number != 0 {
-        return refused(number);
-    }
-    o
+    let mut desk = open_shape(k, m, l, table)?;
+    check_marks(desk.k, desk.m, marks)?;
+    desk.put_marks(marks);
+    Ok(desk)
 }

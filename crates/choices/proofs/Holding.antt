@@ -7,7 +7,6 @@ use native.Mathlib.Numerals.{add-one}
 use lib.ListN.{length, take, drop, set, replicate, length-append, length-take, length-drop, length-replicate, get_or-replicate, drop_of_length-le}
 use lib.Seq.{get_or-take, get_or-drop, drop-cons, ext_get_or, set_at, append_snoc}
 use Rattle.bits.specs.Sums.{at}
-use Rattle.bits.proofs.BitLaws.{get_or-zeros}
 use Rattle.choices.specs.Choices.{Rising, Full, run}
 use Rattle.choices.proofs.Orders.{rising_at, rising_of, rising_drop, rising_room, run_length, run_more}
 
@@ -53,11 +52,6 @@ pub blank : (k : ℕ) (xs : List ℕ) → k ≤ length xs → ((j : ℕ) → k �
 blank k xs l h = ext_get_or 0 (drop k xs) (replicate (length xs - k) 0) (length-drop k xs ∙ sym (length-replicate (length xs - k) 0)) (λ i li.
     let b : i < length xs - k = omega (arith, length-drop k xs) in
     get_or-drop k xs i 0 ∙ h (k + i) (omega arith) (omega arith) ∙ sym (get_or-replicate (length xs - k) i 0 0 b))
-
-pub blank_at : (k d : ℕ) (xs : List ℕ) → drop k xs ≡ replicate d 0 → (j : ℕ) → k ≤ j → at xs j ≡ 0
-blank_at k d xs e j l =
-    let q : k + (j - k) ≡ j = omega arith in
-    ap (at xs) (sym q) ∙ sym (get_or-drop k xs (j - k) 0) ∙ ap (λ t. at t (j - k)) e ∙ get_or-zeros d (j - k)
 
 -- one number more of those that count up
 pub counted_more : (xs : List ℕ) (i a x : ℕ) → i ≤ a → a < length xs → set (take i xs ++ run x (a - i) ++ drop a xs) a (x + (a - i)) ≡ take i xs ++ run x (a + 1 - i) ++ drop (a + 1) xs

@@ -11,7 +11,7 @@ use Rattle.bits.specs.Sums.{at}
 use Rattle.bits.proofs.BitLaws.{get_or-zeros}
 use Rattle.table.specs.Limits.{max_k, max_m, noughts}
 use Rattle.table.specs.Checks.{Checked, size_checks}
-use Rattle.table.proofs.CheckLaws.{checked_once, sized}
+use Rattle.table.proofs.CheckLaws.{sized}
 use Rattle.choices.specs.Choices.{Rising, Before, Full, run, Choice, Next, Last, padded}
 use Rattle.choices.specs.Promise.{Holding, Begins, Follows}
 use Rattle.choices.proofs.Orders.{Grows, rising_to, full_or_grows, grown, run_length, first_choice, next_choice, last_choice, grown-length, before_one_way}
@@ -25,10 +25,6 @@ padded_by : (k : ℕ) (xs ys : List ℕ) → length xs ≡ k → ys ≡ replicat
 padded_by k xs ys e q = ap (λ t. xs ++ t) (q ∙ ap (λ n. replicate (max_k - n) 0) (sym e))
 
 module _ (k m : ℕ) where
-  -- a size that is refused
-  pub size_refused : (n : ℕ) → Checked (size_checks k m) n → (n ≡ 0 → ⊥) → Checked (size_checks k m) 0 → ⊥
-  size_refused n x h y = h (checked_once (size_checks k m) n 0 x y)
-
   pub begins_run : Checked (size_checks k m) 0 → Begins k m (take 0 noughts ++ run 1 (k - 0) ++ drop k noughts)
   begins_run c =
       let s = sized k m c in

@@ -16,8 +16,8 @@ use Rattle.bits.proofs.UpLaws.{up_same, up_high}
 use Rattle.bits.proofs.ByteLaws.{bytes_of-length, bytes_of_bytes, bytes_of-bit, joined_parts}
 use Rattle.table.specs.Desk.{Desk, desk, sources_bytes, reach, packet_bits, packet_bytes, place_of}
 use Rattle.table.specs.Limits.{all_sources}
-use Rattle.table.specs.Table.{desk_of}
-use Rattle.table.specs.declared.Shape.{Shape}
+use Rattle.table.specs.Desks.{desk_of}
+use Rattle.table.specs.declared.desks.Desk as laid
 use Rattle.table.proofs.PacketLaws.{source_full, within_reach, parity_packet_bits, source_packet_bytes, parity_packet_bytes}
 use Rattle.table.proofs.Bounds.{Bounded, sources_fit}
 use Rattle.code.specs.Code.{Bits, sum_of, parity, sources_of, packet_of, packets_of, Short, Source}
@@ -152,8 +152,8 @@ source_taken D B x size c n l e =
     }
 
 -- The one place that says so: a source of length l fills its bytes, so no sources of an accepted call have a bit past their end.
-pub shape_short : (s : Shape) (shifts x : List ℕ) → Short (desk_of s shifts) x
-shape_short s shifts x = full_short (desk_of s shifts) (source_full s.length) x
+pub shape_short : (d : laid.Desk) (x : List ℕ) → Short (desk_of d) x
+shape_short d x = full_short (desk_of d) (source_full d.length) x
 
 pub desk_short : (k m l : ℕ) (table : List ℕ) (marks : ℕ) (x : List ℕ) → Short (desk k m l table marks) x
 desk_short k m l table marks x = full_short (desk k m l table marks) (source_full l) x

@@ -11,8 +11,8 @@ use Rattle.bits.specs.Bits.{bit_at, Bytes, Tells}
 use Rattle.bits.proofs.SumLaws.{sum_nought}
 use Rattle.bits.proofs.UpLaws.{up_high}
 use Rattle.table.specs.Desk.{Desk, mark, sources_bytes, survivors_bytes}
-use Rattle.table.specs.Table.{desk_of}
-use Rattle.table.specs.declared.Shape.{Shape}
+use Rattle.table.specs.Desks.{desk_of}
+use Rattle.table.specs.declared.desks.Desk as laid
 use Rattle.table.proofs.Bounds.{Bounded, shifted_fits}
 use Rattle.table.proofs.MarkLaws.{shared_mark}
 use Rattle.rows.specs.Rows.{row_bits, row_in}
@@ -56,15 +56,15 @@ sum_in_row D W rows short a q la l =
     sum_nought D.k _ (λ c lc.
     up_high (D.shift a c) (source_in D rows c) (8 * D.bytes) q (λ p lp. source_in_lem D rows c p lc ∙ short c p lc lp) (omega (arith, shifted_fits D W a c la lc)))
 
-module _ (s : Shape) (shifts packets : List ℕ) where
+module _ (d : laid.Desk) (packets : List ℕ) where
   abbrev D : Desk
-  D = desk_of s shifts
+  D = desk_of d
 
   abbrev k : ℕ
-  k = s.k
+  k = d.k
 
   abbrev present : ℕ → Bool
-  present = mark s.marks
+  present = mark d.marks
 
   -- what came of the parities
   abbrev r : Bits
@@ -72,41 +72,41 @@ module _ (s : Shape) (shifts packets : List ℕ) where
 
   -- the marks turned over
   abbrev others : ℕ
-  others = 18446744073709551615 - s.marks
+  others = 18446744073709551615 - d.marks
 
   -- the present sources are all there are, if nothing is known of the missing ones
-  marked_present : (x : Bits) → ((c p : ℕ) → Gone D c → x c p ≡ 0) → (c p : ℕ) → c < k → marked_of s.marks x c p ≡ x c p
+  marked_present : (x : Bits) → ((c p : ℕ) → Gone D c → x c p ≡ 0) → (c p : ℕ) → c < k → marked_of d.marks x c p ≡ x c p
   marked_present x blank c p lc = go (present c) refl
     where
-      go : (v : Bool) → present c ≡ v → marked_of s.marks x c p ≡ x c p
-      go true e = marked_on s.marks x c p e
-      go false e = marked_off s.marks x c p e ∙ sym (blank c p (lc, e))
+      go : (v : Bool) → present c ≡ v → marked_of d.marks x c p ≡ x c p
+      go true e = marked_on d.marks x c p e
+      go false e = marked_off d.marks x c p e ∙ sym (blank c p (lc, e))
 
   -- the others are the missing ones
-  marked_missing : s.marks < 2 ^ 64 → k ≤ 64 → (x : Bits) (c p : ℕ) → c < k → marked_of others x c p ≡ missing_of D x c p
+  marked_missing : d.marks < 2 ^ 64 → k ≤ 64 → (x : Bits) (c p : ℕ) → c < k → marked_of others x c p ≡ missing_of D x c p
   marked_missing fits few x c p lc = go (present c) refl
     where
       turned : mark others c ≡ not (present c)
-      turned = shared_mark 64 others s.marks (omega arith) c (omega arith)
+      turned = shared_mark 64 others d.marks (omega arith) c (omega arith)
 
       go : (v : Bool) → present c ≡ v → marked_of others x c p ≡ missing_of D x c p
       go true e = marked_off others x c p (turned ∙ ap not e) ∙ sym (missing-present D x c p e)
       go false e = marked_on others x c p (turned ∙ ap not e) ∙ sym (missing-gone D x c p e)
 
   -- when the packets are in their rows, and the present sources added, nothing is known of the missing ones
-  pub known_blank : Bounded D → (rows₀ rows₁ : List ℕ) → Placed D packets rows₀ → AddedToRests D present (sum_of D (marked_of s.marks (source_in D rows₀))) rows₀ rows₁ → Blank D rows₁
+  pub known_blank : Bounded D → (rows₀ rows₁ : List ℕ) → Placed D packets rows₀ → AddedToRests D present (sum_of D (marked_of d.marks (source_in D rows₀))) rows₀ rows₁ → Blank D rows₁
   known_blank W rows₀ rows₁ P A c p g =
       source_in_lem D rows₁ c p g.0 ∙ A.source c p g.0 ∙ sym (source_in_lem D rows₀ c p g.0) ∙ placed_blank D packets W rows₀ P c p g.0 g.1
 
   -- what is known at the end, of the rows and of the packets
   pub record End (count : ℕ) (whole : Bool) (rows : List ℕ) : Type 0 where
     pub short : InBytes D rows
-    pub read : Bytes packets → length packets ≡ survivors_bytes D → (consistent : Bool) → Tells consistent ((c p : ℕ) → k ≤ c → c < k + s.m → row_in rows c p ≡ 0)
+    pub read : Bytes packets → length packets ≡ survivors_bytes D → (consistent : Bool) → Tells consistent ((c p : ℕ) → k ≤ c → c < k + d.m → row_in rows c p ≡ 0)
         → ReadBack D packets count whole consistent (sources_in D rows)
-    pub nothing : ((c p : ℕ) → k ≤ c → c < k + s.m → row_in rows c p ≡ 0) → NoRest D rows
+    pub nothing : ((c p : ℕ) → k ≤ c → c < k + d.m → row_in rows c p ≡ 0) → NoRest D rows
 
-  module _ (W : Bounded D) (fits : s.marks < 2 ^ 64) (none : (a : ℕ) → present (k + a) ≡ true → a < s.m) (short : (x : List ℕ) → Short D x)
-      (rows₀ rows₁ rows₂ rows₃ : List ℕ) (P : Placed D packets rows₀) (A : AddedToRests D present (sum_of D (marked_of s.marks (source_in D rows₀))) rows₀ rows₁)
+  module _ (W : Bounded D) (fits : d.marks < 2 ^ 64) (none : (a : ℕ) → present (k + a) ≡ true → a < d.m) (short : (x : List ℕ) → Short D x)
+      (rows₀ rows₁ rows₂ rows₃ : List ℕ) (P : Placed D packets rows₀) (A : AddedToRests D present (sum_of D (marked_of d.marks (source_in D rows₀))) rows₀ rows₁)
       (count : ℕ) (whole : Bool) (U : Uncovered D count whole rows₁ rows₂) (B : AddedToRests D present (sum_of D (marked_of others (source_in D rows₂))) rows₂ rows₃) where
     -- the sources when the packets are in their rows, when the missing ones are uncovered, and at the end
     abbrev s₁ : Bits
@@ -140,11 +140,11 @@ module _ (s : Shape) (shifts packets : List ℕ) where
     rests₁ : Rests D r s₁ rows₁
     rests₁ a q lq =
         A.rest a q lq
-        ∙ ap (λ x. (x + cond (present (k + a)) (sum_of D (marked_of s.marks (source_in D rows₀)) a q) 0) % 2) (placed_rest D packets W rows₀ P a q lq)
+        ∙ ap (λ x. (x + cond (present (k + a)) (sum_of D (marked_of d.marks (source_in D rows₀)) a q) 0) % 2) (placed_rest D packets W rows₀ P a q lq)
         ∙ ap (λ x. (cond (present (k + a)) (r a q) 0 + cond (present (k + a)) x 0) % 2) all ∙ go (present (k + a))
       where
-        all : sum_of D (marked_of s.marks (source_in D rows₀)) a q ≡ sum_of D s₁ a q
-        all = sum_of_same D (marked_of s.marks (source_in D rows₀)) s₁ (λ c p lc.
+        all : sum_of D (marked_of d.marks (source_in D rows₀)) a q ≡ sum_of D s₁ a q
+        all = sum_of_same D (marked_of d.marks (source_in D rows₀)) s₁ (λ c p lc.
             marked_present (source_in D rows₀) (λ b o g. placed_blank D packets W rows₀ P b o g.0 g.1) c p lc ∙ sym (same₁ c p lc)) a q
 
         go : (v : Bool) → (cond v (r a q) 0 + cond v (sum_of D s₁ a q) 0) % 2 ≡ cond v (left D r s₁ a q) 0
@@ -179,7 +179,7 @@ module _ (s : Shape) (shifts packets : List ℕ) where
 
     -- nothing is left
     abbrev Clear : Type 0
-    Clear = (c p : ℕ) → k ≤ c → c < k + s.m → row_in rows₃ c p ≡ 0
+    Clear = (c p : ℕ) → k ≤ c → c < k + d.m → row_in rows₃ c p ≡ 0
 
     module _ (w : whole ≡ true) where
       -- what was uncovered is the only candidate
@@ -234,7 +234,7 @@ module _ (s : Shape) (shifts packets : List ℕ) where
     }
 
     nothing_left : Clear → NoRest D rows₃
-    nothing_left z a q = elim (dec_lt a s.m) [
+    nothing_left z a q = elim (dec_lt a d.m) [
       | yes l ↦ z (k + a) q (omega arith) (omega arith)
       | no l ↦ elim (dec_lt q row_bits) [
         | yes lq ↦ rests₃ a q lq ∙ off (omega arith) (present (k + a)) refl
@@ -242,7 +242,7 @@ module _ (s : Shape) (shifts packets : List ℕ) where
       ]
     ]
       where
-        off : s.m ≤ a → (v : Bool) → present (k + a) ≡ v → cond v (left D r s₃ a q) 0 ≡ 0
+        off : d.m ≤ a → (v : Bool) → present (k + a) ≡ v → cond v (left D r s₃ a q) 0 ≡ 0
         off h false e = refl
         off h true e = absurd (omega (arith, none a e))
 

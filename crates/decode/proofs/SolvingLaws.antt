@@ -8,7 +8,6 @@ use native.Mathlib.Omega.{arith}
 use native.Mathlib.Decide.{ℕ_discrete, dec_lt}
 use borrow.Author.Tests.{lt-ltb, le-ltb}
 use lib.Dec.{ltb}
-use lib.ListN.{length}
 use Rattle.bits.specs.Sums.{at, sum}
 use Rattle.bits.specs.Bits.{up}
 use Rattle.bits.proofs.SumLaws.{sum_same, sum_nought, sum_both, count_not}
@@ -16,8 +15,8 @@ use Rattle.bits.proofs.UpLaws.{up_at, up_same, up_high, up-noughts, up_up, up_lt
 use Rattle.bits.proofs.BitLaws.{tells_so}
 use Rattle.table.specs.Limits.{max_shift}
 use Rattle.table.specs.Desk.{Desk}
-use Rattle.table.specs.Table.{Within, desk_of}
-use Rattle.table.specs.declared.Shape.{Shape}
+use Rattle.table.specs.Desks.{desk_of}
+use Rattle.table.specs.declared.desks.Desk as laid
 use Rattle.table.proofs.Bounds.{Bounded}
 use Rattle.rows.specs.Rows.{row_bits, row_in}
 use Rattle.rows.proofs.RowLaws.{row_past}
@@ -28,12 +27,12 @@ use Rattle.plan.specs.Plan.{Planned, listed_shift}
 use Rattle.plan.specs.Even.{Inside}
 use Rattle.plan.proofs.ListedLaws.{listed_distinct}
 use Rattle.plan.proofs.Planned.{planned_gone, planned_ended, planned_low}
-use Rattle.solve.specs.Solve.{Polynomials, Fit, even_row, even_column, row_rise, column_rise, HasPlaces, Rising, Changed}
+use Rattle.solve.specs.Solve.{Polynomials, Fit, even_row, even_column, row_rise, column_rise, Rising, Changed}
 use Rattle.solve.proofs.TermLaws.{up-sum}
 use Rattle.survivors.specs.Remainders.{Roomy, source_in, InBytes}
 use Rattle.survivors.proofs.RestLaws.{source_in_lem}
 use Rattle.decode.specs.Data.{Blank, Rests, in_row, SolvedFor, Uncovered}
-use Rattle.decode.specs.Solving.{AllBecame, SolvedBy, loaded, unloaded}
+use Rattle.decode.specs.Solving.{Sited, AllBecame, SolvedBy, loaded, unloaded}
 use Rattle.decode.proofs.ListedSums.{listed_sum}
 use Rattle.decode.proofs.MissingSums.{missing_bit, missing-bit-present, missing-bit-gone}
 
@@ -176,28 +175,27 @@ solved_uncovered D way n held columns rises P rows rows' S =
 
 -- ---- what a plan gives for the calls on the way
 
-module _ (s : Shape) (shifts : List ℕ) (way n : ℕ) (held columns rises : List ℕ) (W : Within s shifts) (P : Planned (desk_of s shifts) way n held columns rises) where
-  pub planned_inside : Inside s held columns n
+module _ (d : laid.Desk) (way n : ℕ) (held columns rises : List ℕ) (P : Planned (desk_of d) way n held columns rises) where
+  pub planned_inside : Inside d held columns n
   planned_inside = record {
-    few = omega (arith, W.k_high, planned_gone (desk_of s shifts) way n held columns rises P, count_not s.k (gone (desk_of s shifts)));
+    few = omega (arith, d.within.k_high, planned_gone (desk_of d) way n held columns rises P, count_not d.k (gone (desk_of d)));
     rows_in = λ i l. (P.held.listed.inside i l).0;
     columns_in = λ b l. (P.gone.inside b l).0;
   }
 
-  pub planned_placed : (rows : List ℕ) → n ≤ length columns → Roomy rows → HasPlaces columns n rows
-  planned_placed rows long room = record {
+  pub planned_sited : (rows : List ℕ) → Roomy rows → Sited columns n rows
+  planned_sited rows room = record {
     some = P.some;
-    listed = long;
-    has = λ i l. omega (arith, W.k_high, (P.gone.inside i l).0);
-    apart = listed_distinct (Gone (desk_of s shifts)) columns n P.gone;
+    has = λ i l. omega (arith, d.within.k_high, (P.gone.inside i l).0);
+    apart = listed_distinct (Gone (desk_of d)) columns n P.gone;
   }
 
   pub planned_rising : Rising rises n
   planned_rising = record {
     listed = omega (arith, P.size, planned_inside.few);
     climbs = elim (ℕ_discrete way 1) [ yes e ↦ (P.by_rows e).rising | no ne ↦ (P.by_columns (omega (arith, P.way_low, P.way_high))).rising ];
-    most = planned_low (desk_of s shifts) way n held columns rises P;
+    most = planned_low (desk_of d) way n held columns rises P;
   }
 
-  pub planned_blank : (rows : List ℕ) → Blank (desk_of s shifts) rows → (i p : ℕ) → i < n → row_in rows (at columns i) p ≡ 0
-  planned_blank rows blank i p l = let G = P.gone.inside i l in sym (source_in_lem (desk_of s shifts) rows (at columns i) p G.0) ∙ blank (at columns i) p G
+  pub planned_blank : (rows : List ℕ) → Blank (desk_of d) rows → (i p : ℕ) → i < n → row_in rows (at columns i) p ≡ 0
+  planned_blank rows blank i p l = let G = P.gone.inside i l in sym (source_in_lem (desk_of d) rows (at columns i) p G.0) ∙ blank (at columns i) p G

@@ -66,9 +66,6 @@ module _ (D : Desk) where
         pub stepping_short : count ≤ all D
         stepping_short = reaches_short D S.reached
 
-        pub stepping_blank : (a b : ℕ) → Bare D (at g) a b → source_in D rows b (at g b) ≡ 0
-        stepping_blank a b B = S.blank b (at g b) B.free.0 (omega (arith, ap (λ (h : ℕ → ℕ). h b) S.is_end))
-
         -- no pair is bare: the end
         pub stepping_end : (whole : Bool) → Stuck D (at g) → Tells whole (Whole D (at g)) → Decoded D count whole rows₀ rows
         stepping_end whole stuck tells = record {

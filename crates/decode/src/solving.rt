@@ -1,40 +1,30 @@
 // The missing sources solved for at once, where they are even. What is left of each parity at hand is loaded into the row of a missing source, shifted so that the first missing source
 // stands at one place in all of them; solved; and each source shifted down to its own place, and cut to its bytes.
-ghost use Rattle.std.specs.Prelude.{◌≡◌, ◌≢◌, cond, ltb, length, ℕ, ◌+◌, ◌≤◌, ◌<◌};
+ghost use Rattle.std.specs.Prelude.{◌≡◌, ◌≢◌, cond, ltb, ℕ, ◌+◌, ◌≤◌, ◌<◌};
 ghost use Rattle.bits.specs.Sums.{at};
 ghost use Rattle.bits.specs.Bits.{up};
 ghost use Rattle.table.specs.Limits.{max_shift};
-ghost use Rattle.table.specs.Table.{Within, Ready, desk_of};
+ghost use Rattle.table.specs.Desks.{desk_of};
 ghost use Rattle.rows.specs.Rows.{row_in, HasRow, Became};
-ghost use Rattle.plan.specs.Plan.{Planned, listed_shift};
+ghost use Rattle.plan.specs.Plan.{way_of, Planned, listed_shift};
 ghost use Rattle.plan.specs.Even.{Inside};
-ghost use Rattle.solve.specs.Solve.{HasPlaces, Rising, Changed};
+ghost use Rattle.solve.specs.Solve.{Rising, Changed};
 ghost use Rattle.survivors.specs.Remainders.{Roomy};
 ghost use Rattle.decode.specs.Data.{Blank, SolvedFor};
-ghost use Rattle.decode.specs.Solving.{AllBecame, SolvedBy, loaded, unloaded};
+ghost use Rattle.decode.specs.Solving.{Sited, AllBecame, SolvedBy, loaded, unloaded};
 
-use plan::{PARITIES, Way};
-use search::COLUMNS;
-use table::{Shape, Table};
+use plan::{Plan, Way};
+use search::Missing;
+use table::Desk;
 
 // The shift of the parity and the source listed at i and b.
-fn listed_shift(
-    s: Shape,
-    shifts: &[u8; Table::CELLS],
-    held: &[u8; PARITIES],
-    columns: &[u8],
-    n: usize,
-    i: usize,
-    b: usize,
-) -> usize
-    requires within { Within s shifts.now }
-    requires inside { Inside s held.now columns.now n }
-    requires n_in_bounds { n ≤ length columns.now }
-    requires i_lt_n { i < n }
-    requires b_lt_n { b < n }
-    ensures { (result ≡ listed_shift (desk_of s shifts.now) held.now columns.now i b) × (result ≤ max_shift) }
+fn listed_shift(desk: &Desk, plan: &Plan, missing: &Missing, i: usize, b: usize) -> usize
+    requires inside { Inside desk.now plan.now.rows missing.now.columns missing.now.count }
+    requires i_lt_n { i < missing.now.count }
+    requires b_lt_n { b < missing.now.count }
+    ensures { (result ≡ listed_shift (desk_of desk.now) plan.now.rows missing.now.columns i b) × (result ≤ max_shift) }
 {
-    table::shift_of(s, shifts, held[i] as usize, columns[b] as usize)
+    desk.shift_of(plan.rows[i] as usize, missing.columns[b] as usize)
 }
 
 // Puts row b into row a, which is noughts, shifted up by e bits and down by d: at once, so that nothing is lost.
@@ -55,43 +45,33 @@ fn put_shifted(rows: &mut [u64], a: usize, b: usize, e: usize, d: usize)
 }
 
 // Loads what is left of each parity at hand into the row of a missing source.
-fn load(
-    s: Shape,
-    shifts: &[u8; Table::CELLS],
-    held: &[u8; PARITIES],
-    columns: &[u8],
-    n: usize,
-    rows: &mut [u64],
-)
-    requires within { Within s shifts.now }
-    requires inside { Inside s held.now columns.now n }
-    requires has_places { HasPlaces columns.now n rows.old }
+fn load(desk: &Desk, plan: &Plan, missing: &Missing, rows: &mut [u64])
+    requires inside { Inside desk.now plan.now.rows missing.now.columns missing.now.count }
+    requires sited { Sited missing.now.columns missing.now.count rows.old }
     requires roomy { Roomy rows.old }
-    requires by_index { (i p : ℕ) → i < n → row_in rows.old (at columns.now i) p ≡ 0 }
-    ensures { AllBecame (loaded (desk_of s shifts.now) held.now columns.now rows.old) columns.now n
+    requires by_index { (i p : ℕ) → i < missing.now.count → row_in rows.old (at missing.now.columns i) p ≡ 0 }
+    ensures { AllBecame (loaded (desk_of desk.now) plan.now.rows missing.now.columns rows.old) missing.now.columns missing.now.count
         rows.old rows.new }
 {
-    let e = listed_shift(s, shifts, held, columns, n, 0, 0);
-    let k = s.k;
-    let mut i = 0;
-    while i < n {
-        let d = listed_shift(s, shifts, held, columns, n, i, 0);
-        put_shifted(rows, columns[i] as usize, k + held[i] as usize, e, d);
-        i += 1;
+    let e = listed_shift(desk, plan, missing, 0, 0);
+    for i in 0..missing.count as usize {
+        let d = listed_shift(desk, plan, missing, i, 0);
+        let from = desk.k + plan.rows[i] as usize;
+        put_shifted(rows, missing.columns[i] as usize, from, e, d);
     }
 }
 
-// Solves the rows at n places in a way of a plan.
-fn solve_by(way: u8, columns: &[u8], rises: &[u8], n: usize, rows: &mut [u64])
-    requires has_places { HasPlaces columns.now n rows.old }
-    requires rising { Rising rises.now n }
-    ensures { Changed (SolvedBy way (at rises.now) n) columns.now n rows.old rows.new }
+// Solves the rows at the places of the missing sources in the way of a plan.
+fn solve_by(plan: &Plan, missing: &Missing, rows: &mut [u64])
+    requires sited { Sited missing.now.columns missing.now.count rows.old }
+    requires rising { Rising plan.now.rises missing.now.count }
+    ensures { Changed (SolvedBy (way_of plan.now.way) (at plan.now.rises) missing.now.count) missing.now.columns missing.now.count rows.old rows.new }
 {
-    if way == Way::ROWS {
-        solve::solve_rows(rows, columns, rises, n);
-        return;
+    let n = missing.count as usize;
+    match plan.way {
+        Way::Rows => solve::solve_rows(rows, &missing.columns, &plan.rises, n),
+        Way::Columns => solve::solve_columns(rows, &missing.columns, &plan.rises, n),
     }
-    solve::solve_columns(rows, columns, rises, n);
 }
 
 // Shifts row a down by e bits, and clears it from bit n on.
@@ -105,49 +85,27 @@ fn lower_and_cut(rows: &mut [u64], a: usize, e: usize, n: usize)
 }
 
 // Makes each unknown its source.
-fn unload(
-    s: Shape,
-    shifts: &[u8; Table::CELLS],
-    held: &[u8; PARITIES],
-    columns: &[u8],
-    n: usize,
-    rows: &mut [u64],
-)
-    requires within { Within s shifts.now }
-    requires inside { Inside s held.now columns.now n }
-    requires has_places { HasPlaces columns.now n rows.old }
-    ensures { AllBecame (unloaded (desk_of s shifts.now) held.now columns.now rows.old) columns.now n
+fn unload(desk: &Desk, plan: &Plan, missing: &Missing, rows: &mut [u64])
+    requires inside { Inside desk.now plan.now.rows missing.now.columns missing.now.count }
+    requires sited { Sited missing.now.columns missing.now.count rows.old }
+    ensures { AllBecame (unloaded (desk_of desk.now) plan.now.rows missing.now.columns rows.old) missing.now.columns missing.now.count
         rows.old rows.new }
 {
-    let end = 8 * table::source_bytes(s);
-    let mut b = 0;
-    while b < n {
-        let e = listed_shift(s, shifts, held, columns, n, 0, b);
-        lower_and_cut(rows, columns[b] as usize, e, end);
-        b += 1;
+    let end = 8 * desk.source_bytes();
+    for b in 0..missing.count as usize {
+        let e = listed_shift(desk, plan, missing, 0, b);
+        lower_and_cut(rows, missing.columns[b] as usize, e, end);
     }
 }
 
 // Solves for the missing sources, which are listed, by a plan for them.
-pub fn solve_missing(
-    s: Shape,
-    shifts: &[u8; Table::CELLS],
-    way: u8,
-    held: &[u8; PARITIES],
-    columns: &[u8; COLUMNS],
-    rises: &[u8; Table::SOURCES],
-    count: u8,
-    rows: &mut [u64],
-)
-    requires ready { Ready s shifts.now }
-    requires planned { Planned (desk_of s shifts.now) way count held.now columns.now rises.now }
-    requires le_way { 1 ≤ way }
+pub fn solve_missing(desk: &Desk, plan: &Plan, missing: &Missing, rows: &mut [u64])
+    requires planned { Planned (desk_of desk.now) (way_of plan.now.way) missing.now.count plan.now.rows missing.now.columns plan.now.rises }
     requires roomy { Roomy rows.old }
-    requires blank { Blank (desk_of s shifts.now) rows.old }
-    ensures { SolvedFor (desk_of s shifts.now) rows.old rows.new }
+    requires blank { Blank (desk_of desk.now) rows.old }
+    ensures { SolvedFor (desk_of desk.now) rows.old rows.new }
 {
-    let n = count as usize;
-    load(s, shifts, held, columns, n, rows);
-    solve_by(way, columns, rises, n, rows);
-    unload(s, shifts, held, columns, n, rows);
+    load(desk, plan, missing, rows);
+    solve_by(plan, missing, rows);
+    unload(desk, plan, missing, rows);
 }

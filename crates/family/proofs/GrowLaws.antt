@@ -1,13 +1,18 @@
 -- Laws of growing differences: step by step is as good as all at once, and the judge's test is that. Assumes nothing.
 use mathlib.Core.Path.{◌≡◌, refl, sym, ap, ◌∙◌, subst}
+use mathlib.Core.Logic.{inl, inr}
+use mathlib.Core.Bool.{Bool, true, false}
 use mathlib.Core.List.{List}
 use Prim.Native.Nat.{ℕ, zero, suc, ◌+◌, ◌-◌, ◌*◌, ◌/◌, ◌%◌, ◌≤◌, ◌<◌}
 use native.Mathlib.Omega.{arith}
+use Rattle.std.specs.Prelude.{Ok}
 use Rattle.bits.specs.Sums.{at}
+use Rattle.bits.specs.Bits.{Tells}
 use Rattle.table.specs.Limits.{max_k, max_m}
 use Rattle.table.specs.Desk.{desk, entry, Grows}
 use Rattle.table.specs.Table.{laid_out, Holds}
-use Rattle.family.specs.Judge.{StepGrows, TableGrows}
+use Rattle.table.specs.Checks.{Flag}
+use Rattle.family.specs.Judge.{growing, StepGrows, TableGrows}
 use Rattle.table.specs.declared.Table.{Table}
 use Rattle.table.proofs.TableLaws.{laid_in}
 
@@ -75,12 +80,17 @@ module _ {k m : ℕ} {table : List ℕ} {t : Table} (H : Holds k m table t) wher
       omega (arith, there)
 
   -- the judge's test is growing differences
-  pub grows_judged : k ≤ max_k → m ≤ max_m → TableGrows t.k t.m t.shifts → Grows (desk k m 0 table 0)
+  grows_judged : k ≤ max_k → m ≤ max_m → TableGrows t.k t.m t.shifts → Grows (desk k m 0 table 0)
   grows_judged kh mh g =
       let s : Steps k m (laid_out k t.shifts) = steps-laid kh mh (subst (λ x. TableGrows x m t.shifts) H.k_is (subst (λ x. TableGrows t.k x t.shifts) H.m_is g)) in
       steps_grow k m (entry k table) (subst (Steps k m) H.laid s)
 
-  pub judged_grows : Grows (desk k m 0 table 0) → TableGrows t.k t.m t.shifts
+  judged_grows : Grows (desk k m 0 table 0) → TableGrows t.k t.m t.shifts
   judged_grows G =
       let s : Steps k m (laid_out k t.shifts) = subst (Steps k m) (sym H.laid) (λ a b la lb. G a (a + 1) b (b + 1) (omega arith) la (omega arith) lb) in
       subst (λ x. TableGrows t.k x t.shifts) (sym H.m_is) (subst (λ x. TableGrows x m t.shifts) (sym H.k_is) (laid-steps s))
+
+  -- what it tells is the flag of it
+  pub judged_flag : k ≤ max_k → m ≤ max_m → (b : Bool) → Tells b (TableGrows t.k t.m t.shifts) → Flag (Grows (desk k m 0 table 0)) (growing (Ok b))
+  judged_flag kh mh true w = inl (grows_judged kh mh (w.so refl), refl)
+  judged_flag kh mh false w = inr ((λ g. w.not_so refl (judged_grows g)), refl)

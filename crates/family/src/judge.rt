@@ -1,25 +1,13 @@
 // The judge: whether differences grow down the table.
-ghost use Rattle.std.specs.Prelude.{◌≡◌, ℕ, ◌+◌, ◌≤◌, ◌<◌};
+ghost use Rattle.std.specs.Prelude.{ℕ, ◌+◌, ◌≤◌, ◌<◌};
 ghost use Rattle.bits.specs.Sums.{at};
 ghost use Rattle.bits.specs.Bits.{Tells};
 ghost use Rattle.table.specs.Limits.{max_k, max_m, max_shift};
-ghost use Rattle.family.specs.Judge.{StepGrows, CellGrows, TableGrows};
+ghost use Rattle.table.specs.Refusals.{told};
+ghost use Rattle.family.specs.Judge.{growing, StepGrows, CellGrows, TableGrows};
 ghost use Rattle.family.specs.Promise.{Judged};
 
-use table::Table;
-
-// What judge gives: whether differences grow (1 or 0).
-#[derive(Clone, Copy)]
-pub struct JudgeAnswer {
-    pub number: u64,
-    pub growing: u64,
-}
-
-fn wide(x: u8) -> u64
-    ensures { (result ≡ x) × (result < 256) }
-{
-    x as u64
-}
+use table::{Refusal, Table};
 
 // Whether the difference between columns b and b + 1 grows from row a to row a + 1.
 fn step_grows(shifts: &[u8; Table::CELLS], a: usize, b: usize) -> bool
@@ -28,7 +16,8 @@ fn step_grows(shifts: &[u8; Table::CELLS], a: usize, b: usize) -> bool
 {
     let i = a * Table::SOURCES + b;
     let j = i + Table::SOURCES;
-    wide(shifts[i + 1]) + wide(shifts[j]) < wide(shifts[j + 1]) + wide(shifts[i])
+    u64::from(shifts[i + 1]) + u64::from(shifts[j])
+        < u64::from(shifts[j + 1]) + u64::from(shifts[i])
 }
 
 // Whether the difference grows at cell i, where a row and a column of the table come after it.
@@ -39,13 +28,7 @@ fn cell_grows(k: usize, m: usize, shifts: &[u8; Table::CELLS], i: usize) -> bool
 {
     let a = i / Table::SOURCES;
     let b = i % Table::SOURCES;
-    if m <= a + 1 {
-        return true;
-    }
-    if k <= b + 1 {
-        return true;
-    }
-    step_grows(shifts, a, b)
+    m <= a + 1 || k <= b + 1 || step_grows(shifts, a, b)
 }
 
 // Whether every difference grows down the table.
@@ -54,42 +37,15 @@ fn table_grows(k: usize, m: usize, shifts: &[u8; Table::CELLS]) -> bool
     requires by_index { (j : ℕ) → at shifts.now j ≤ max_shift }
     ensures { Tells result (TableGrows k m shifts.now) }
 {
-    let mut i = 0;
-    while i < Table::CELLS {
-        if cell_grows(k, m, shifts, i) {
-            i += 1;
-        } else {
-            return false;
-        }
-    }
-    true
+    (0..Table::CELLS).all(|i| cell_grows(k, m, shifts, i))
 }
 
 // Yes exactly for growing differences.
-pub fn judge(k: u64, m: u64, table: &[u8]) -> JudgeAnswer
-    ensures { Judged k m table.now result.number result.growing }
+pub fn judge(k: u64, m: u64, table: &[u8]) -> Result<bool, Refusal>
+    ensures { Judged k m table.now (told result) (growing result) }
 {
-    let size = checks::size_number(k, m);
-    if size != 0 {
-        return JudgeAnswer {
-            number: size,
-            growing: 0,
-        };
-    }
-    let number = checks::table_number(k, m, table);
-    if number != 0 {
-        return JudgeAnswer { number, growing: 0 };
-    }
+    checks::check_size(k, m)?;
+    checks::check_table(k, m, table)?;
     let t = Table::new(k, m, table);
-    let shifts = t.shifts;
-    if table_grows(t.k, t.m, &shifts) {
-        return JudgeAnswer {
-            number: 0,
-            growing: 1,
-        };
-    }
-    JudgeAnswer {
-        number: 0,
-        growing: 0,
-    }
+    Ok(table_grows(t.k, t.m, &t.shifts))
 }

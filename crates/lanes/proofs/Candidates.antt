@@ -9,9 +9,7 @@ use Rattle.bits.specs.Bits.{bit_at, Bytes}
 use Rattle.table.specs.Desk.{Desk, sources_bytes}
 use Rattle.table.proofs.Bounds.{Bounded}
 use Rattle.code.specs.Code.{Bits, sources_of, Short, Encodes}
-use Rattle.walk.specs.Ends.{Finishes}
 use Rattle.walk.specs.Read.{present_of}
-use Rattle.walk.proofs.Ends.{ended_finishes}
 use Rattle.walk.proofs.ReadLaws.{present_of_blank, present_of_encodes, only}
 use Rattle.survivors.specs.Packets.{came, came_source, came_parity, EncodesTo, stripe}
 use Rattle.survivors.proofs.SourceLaws.{sources_ext}
@@ -25,10 +23,6 @@ module _ (D : Desk) where
   came-source : (packets : List ℕ) (c p : ℕ) → c < k → came_source D packets c p ≡ bit_at (came D packets c) p
   unfolding came_source
   came-source packets c p l = rw (lt-ltb c k l)
-
-  -- lanes that are whole finish all missing sources
-  pub lanes_finish : (packets : List ℕ) (stripes count : ℕ) (lanes : List ℕ) → LanesRead D packets stripes count true lanes → Finishes D count
-  lanes_finish packets stripes count lanes L = ended_finishes D count L.ended (L.full.so refl)
 
   module _ (W : Bounded D) (short : (x : List ℕ) → Short D x) (packets : List ℕ) (stripes count : ℕ) (lanes : List ℕ) (L : LanesRead D packets stripes count true lanes)
       (t : ℕ) (lt : t < stripes) where

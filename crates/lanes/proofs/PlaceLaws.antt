@@ -10,16 +10,18 @@ use lib.ListN.{length, set, length-set}
 use lib.Seq.{get_or-set_same, get_or-set_other}
 use Rattle.bits.specs.Sums.{at}
 use Rattle.bits.specs.Bits.{bit_at, part}
-use Rattle.bits.proofs.SliceLaws.{slice-bit}
+use Rattle.bits.proofs.SliceLaws.{slice-bit, part_in}
 use Rattle.table.specs.Limits.{max_packets, longest}
 use Rattle.table.specs.Desk.{Desk, mark, packet_bytes, place_of, survivors_bytes}
 use Rattle.table.specs.Table.{NextMark}
-use Rattle.table.proofs.Bounds.{Bounded, parity_fits}
+use Rattle.table.specs.Desks.{desk_of}
+use Rattle.table.proofs.Bounds.{Bounded, within_bounds, parity_fits}
 use Rattle.table.proofs.PacketLaws.{source_packet_bytes, place_none, place_on, place_off, place_ends}
 use Rattle.code.proofs.CodeLaws.{by_kind}
 use Rattle.survivors.specs.Packets.{came, stripe}
 use Rattle.survivors.proofs.AtHand.{AtPacket}
-use Rattle.lanes.specs.Lanes.{Gathers, Places, Stripes}
+use Rattle.lanes.specs.Lanes.{Gathers}
+use Rattle.lanes.specs.declared.Log.{Log}
 
 -- belongs to table
 module _ (D : Desk) (B : Bounded D) where
@@ -45,31 +47,33 @@ module _ (D : Desk) (B : Bounded D) where
 
 -- ---- bit q of packet i, in every stripe
 
--- by the places it is a bit of each stripe of n bytes, among its first bits, and that of the packet as it came
-pub record BitFound (D : Desk) (places : List ℕ) (n i q : ℕ) : Type 0 where
-  pub inside : 8 * at places i + q < 8 * n
-  pub low : 8 * at places i + q < 8 * (max_packets * longest)
-  pub arrived : (packets : List ℕ) (stripes word : ℕ) → Gathers stripes (λ t. bit_at (part packets n t) (8 * at places i + q)) word
-      → Gathers stripes (λ t. bit_at (came D (stripe D packets t) i) q) word
+module _ (log : Log) where
+  abbrev D : Desk
+  D = desk_of log.desk.now
 
-module _ (D : Desk) (n : ℕ) (size : n ≡ survivors_bytes D) where
-  open D use {k, m, present}
+  -- by the places it is a bit of each stripe, among its first bits, and that of the packet as it came
+  pub record BitFound (i q : ℕ) : Type 0 where
+    pub inside : 8 * at log.places i + q < 8 * log.size
+    pub low : 8 * at log.places i + q < 8 * (max_packets * longest)
+    pub arrived : (word : ℕ) → Gathers log.stripes (λ t. bit_at (part log.packets.now log.size t) (8 * at log.places i + q)) word
+        → Gathers log.stripes (λ t. bit_at (came D (stripe D log.packets.now t) i) q) word
 
-  pub parts_are_stripes : (stripes : ℕ) (packets : List ℕ) → Stripes D stripes packets → length packets ≡ stripes * n
-  parts_are_stripes stripes packets h = h ∙ ap (λ x. stripes * x) (sym size)
-
-  pub bit_found : Bounded D → (places : List ℕ) → Places D places → (i q : ℕ) → i < k + m → present i ≡ true → q < 8 * packet_bytes D i → BitFound D places n i q
-  bit_found B places P i q l e lq = record {
-    inside = omega (arith, ends);
-    low = omega (arith, ends, stripe_short D B);
-    arrived = λ packets stripes word G t lt.
+  pub bit_found : (i q : ℕ) → i < D.k + D.m → D.present i ≡ true → q < 8 * packet_bytes D i → BitFound i q
+  bit_found i q l e lq = record {
+    inside = omega (arith, ends, log.sized);
+    low = omega (arith, ends, stripe_short D (within_bounds log.desk.now));
+    arrived = λ word G t lt.
         G t lt
-        ∙ ap₂ (λ x y. bit_at (part packets x t) (8 * y + q)) size (P i l e)
-        ∙ sym (slice-bit (stripe D packets t) (place_of D present i) (packet_bytes D i) q lq);
+        ∙ ap₂ (λ x y. bit_at (part log.packets.now x t) (8 * y + q)) log.sized (log.placed i l e)
+        ∙ sym (slice-bit (stripe D log.packets.now t) (place_of D D.present i) (packet_bytes D i) q lq);
   }
     where
-      ends : at places i + packet_bytes D i ≤ survivors_bytes D
-      ends = omega (arith, P i l e, place_ends D present i (k + m) l e)
+      ends : at log.places i + packet_bytes D i ≤ survivors_bytes D
+      ends = omega (arith, log.placed i l e, place_ends D D.present i (D.k + D.m) l e)
+
+  -- stripe t stands within the packets
+  pub stripe_in : (t : ℕ) → t < log.stripes → t * log.size + log.size ≤ length log.packets.now
+  stripe_in t l = part_in t log.stripes log.size (length log.packets.now) l (omega (arith, log.filled ∙ ap (λ x. log.stripes * x) (sym log.sized)))
 
 -- ---- the places, from one packet present to the next
 

@@ -4,88 +4,79 @@
 
 use chain::Blocks;
 use std::io;
-use table::{Family, Number, Table};
+use table::{Family, Refusal, Table};
 
-fn print(rt: &impl Print, text: &[u8]) -> io::Result<()> {
-    rt.write_all(text)
-}
+// A macro's name, without WH_, and its value.
+type Macro = (&'static str, u64);
 
-// One macro.
-fn print_macro(rt: &impl Print, name: &[u8], value: u64) -> io::Result<()> {
-    print(rt, b"#define WH_")?;
-    print(rt, name)?;
-    print(rt, b" ")?;
-    rt.print(value)?;
-    print(rt, b"\n")
-}
+const LIMITS: [Macro; 9] = [
+    ("MAX_K", Table::MAX_K),
+    ("MAX_M", Table::MAX_M),
+    ("MAX_LENGTH", Table::MAX_LENGTH),
+    ("MAX_SHIFT", Table::MAX_SHIFT as u64),
+    ("LONGEST", Table::LONGEST as u64),
+    ("FAMILIES", Table::FAMILIES),
+    ("MAX_STRIPES", Table::MAX_STRIPES),
+    ("MAX_INFORMATION", Blocks::MAX_INFORMATION),
+    ("BLOCKS_LONGEST", Blocks::LONGEST as u64),
+];
 
-fn print_limits(rt: &impl Print) -> io::Result<()> {
-    print(
-        rt,
-        b"/* The limits of the shift table's type, and of a packet's blocks. */\n",
-    )?;
-    print_macro(rt, b"MAX_K", Table::MAX_K)?;
-    print_macro(rt, b"MAX_M", Table::MAX_M)?;
-    print_macro(rt, b"MAX_LENGTH", Table::MAX_LENGTH)?;
-    print_macro(rt, b"MAX_SHIFT", Table::MAX_SHIFT as u64)?;
-    print_macro(rt, b"LONGEST", Table::LONGEST as u64)?;
-    print_macro(rt, b"FAMILIES", Table::FAMILIES)?;
-    print_macro(rt, b"MAX_STRIPES", Table::MAX_STRIPES)?;
-    print_macro(rt, b"MAX_INFORMATION", Blocks::MAX_INFORMATION)?;
-    print_macro(rt, b"BLOCKS_LONGEST", Blocks::LONGEST as u64)
-}
+const FAMILIES: [Macro; 3] = [
+    ("HOUSE", Family::House as u64),
+    ("HANKEL", Family::Hankel as u64),
+    ("VANDERMONDE", Family::Vandermonde as u64),
+];
 
-fn print_families(rt: &impl Print) -> io::Result<()> {
-    print(rt, b"/* The families of shift tables. */\n")?;
-    print_macro(rt, b"HOUSE", Family::HOUSE)?;
-    print_macro(rt, b"HANKEL", Family::HANKEL)?;
-    print_macro(rt, b"VANDERMONDE", Family::VANDERMONDE)
-}
+const NUMBERS: [Macro; 27] = [
+    ("DONE", Refusal::DONE),
+    ("SIZE", Refusal::Size as u64),
+    ("LENGTH", Refusal::Length as u64),
+    ("TABLE", Refusal::Table as u64),
+    ("INPUT", Refusal::Input as u64),
+    ("OUTPUT", Refusal::Output as u64),
+    ("PACKET", Refusal::Packet as u64),
+    ("MARKS", Refusal::Marks as u64),
+    ("STALL", Refusal::Stall as u64),
+    ("STRAY", Refusal::Stray as u64),
+    ("FOREIGN", Refusal::Foreign as u64),
+    ("BLOCK_SHORT", Refusal::BlockShort as u64),
+    ("BLOCK_RESERVED", Refusal::BlockReserved as u64),
+    ("BLOCK_LENGTH", Refusal::BlockLength as u64),
+    ("BLOCK_SUM", Refusal::BlockSum as u64),
+    ("BLOCK_HEADER", Refusal::BlockHeader as u64),
+    ("ROOM", Refusal::Room as u64),
+    ("PROGRESS", Refusal::Progress as u64),
+    ("LINE", Refusal::Line as u64),
+    ("FAMILY", Refusal::Family as u64),
+    ("BLOCK_TURN", Refusal::BlockTurn as u64),
+    ("BLOCK_END", Refusal::BlockEnd as u64),
+    ("STEPS_UNEQUAL", Refusal::StepsUnequal as u64),
+    ("STEP_NOT_BARE", Refusal::StepNotBare as u64),
+    ("STEPS_EARLY", Refusal::StepsEarly as u64),
+    ("STRIPES", Refusal::Stripes as u64),
+    ("CUT", Refusal::Cut as u64),
+];
 
-fn print_numbers(rt: &impl Print) -> io::Result<()> {
-    print(rt, b"/* The list of numbers. */\n")?;
-    print_macro(rt, b"DONE", Number::DONE)?;
-    print_macro(rt, b"SIZE", Number::SIZE)?;
-    print_macro(rt, b"LENGTH", Number::LENGTH)?;
-    print_macro(rt, b"TABLE", Number::TABLE)?;
-    print_macro(rt, b"INPUT", Number::INPUT)?;
-    print_macro(rt, b"OUTPUT", Number::OUTPUT)?;
-    print_macro(rt, b"PACKET", Number::PACKET)?;
-    print_macro(rt, b"MARKS", Number::MARKS)?;
-    print_macro(rt, b"STALL", Number::STALL)?;
-    print_macro(rt, b"STRAY", Number::STRAY)?;
-    print_macro(rt, b"FOREIGN", Number::FOREIGN)?;
-    print_macro(rt, b"BLOCK_SHORT", Number::BLOCK_SHORT)?;
-    print_macro(rt, b"BLOCK_RESERVED", Number::BLOCK_RESERVED)?;
-    print_macro(rt, b"BLOCK_LENGTH", Number::BLOCK_LENGTH)?;
-    print_macro(rt, b"BLOCK_SUM", Number::BLOCK_SUM)?;
-    print_macro(rt, b"BLOCK_HEADER", Number::BLOCK_HEADER)?;
-    print_macro(rt, b"ROOM", Number::ROOM)?;
-    print_macro(rt, b"PROGRESS", Number::PROGRESS)?;
-    print_macro(rt, b"LINE", Number::LINE)?;
-    print_macro(rt, b"FAMILY", Number::FAMILY)?;
-    print_macro(rt, b"BLOCK_TURN", Number::BLOCK_TURN)?;
-    print_macro(rt, b"BLOCK_END", Number::BLOCK_END)?;
-    print_macro(rt, b"STEPS_UNEQUAL", Number::STEPS_UNEQUAL)?;
-    print_macro(rt, b"STEP_NOT_BARE", Number::STEP_NOT_BARE)?;
-    print_macro(rt, b"STEPS_EARLY", Number::STEPS_EARLY)?;
-    print_macro(rt, b"STRIPES", Number::STRIPES)?;
-    print_macro(rt, b"CUT", Number::CUT)
+// A heading, a macro a line, and an empty line.
+fn print_macros(rt: &impl Print, heading: &str, macros: &[Macro]) -> io::Result<()> {
+    println!(rt; "/* {heading} */")?;
+    for (name, value) in macros {
+        println!(rt; "#define WH_{name} {value}")?;
+    }
+    println!(rt)
 }
 
 fn main(rt: HostRuntime) -> io::Result<()> {
-    print(
-        &rt,
-        b"/* Printed by the program limits, from the constants of the crates table and chain. */\n\n",
+    println!(rt;
+        "/* Printed by the program limits, from the constants of the crates table and chain. */\n"
     )?;
-    print(
+    println!(rt; "#ifndef WINDHAWKER_LIMITS_H\n#define WINDHAWKER_LIMITS_H\n")?;
+    print_macros(
         &rt,
-        b"#ifndef WINDHAWKER_LIMITS_H\n#define WINDHAWKER_LIMITS_H\n\n",
+        "The limits of the shift table's type, and of a packet's blocks.",
+        &LIMITS,
     )?;
-    print_limits(&rt)?;
-    print(&rt, b"\n")?;
-    print_families(&rt)?;
-    print(&rt, b"\n")?;
-    print_numbers(&rt)?;
-    print(&rt, b"\n#endif\n")
+    print_macros(&rt, "The families of shift tables.", &FAMILIES)?;
+    print_macros(&rt, "The list of numbers.", &NUMBERS)?;
+    println!(rt; "#endif")
 }

@@ -1,16 +1,18 @@
 // The line that the class sheet reads: exactly one, `k m L`.
 #![tactic(auto)]
 
-ghost use Rattle.std.specs.Prelude.{◌≡◌, ◌≤◌, ◌<◌, length};
-ghost use Rattle.line.specs.Reading.{DigitAt, NumberAt, TokenAt};
-ghost use Rattle.line.specs.Promise.{line_checks, sheet_checks, LineRead};
+ghost use Rattle.std.specs.Prelude.{◌≡◌, ℕ, ◌≤◌, ◌<◌, length, MatchOption};
+ghost use Rattle.table.specs.Refusals.{told};
+ghost use Rattle.line.specs.Reading.{DigitAt, NoDigitAt, NumberAt, TokenAt, NoTokenAt};
+ghost use Rattle.line.specs.Promise as promise;
+ghost use Rattle.line.specs.Promise.{sheet_checks, LineRead};
+ghost use Rattle.line.specs.Given.{k_given, m_given, l_given};
 
-use table::Number;
+use table::Refusal;
 
-// What the line gives: its number, and with number 0 k, m and the length.
-#[derive(Clone, Copy)]
+// The three numbers of a line: k, m and the length.
+#[derive(Clone, Copy, Debug, PartialEq, Eq)]
 pub struct Line {
-    pub number: u64,
     pub k: u64,
     pub m: u64,
     pub l: u64,
@@ -23,143 +25,85 @@ struct Token {
     next: usize,
 }
 
-// Where no digit stands.
-const NONE: u64 = 10;
-
 // The digit at i.
-fn digit_at(input: &[u8], i: usize) -> u64
-    ensures { DigitAt input.now i result }
+fn digit_at(input: &[u8], i: usize) -> Option<u64>
+    ensures { MatchOption result (NoDigitAt input.now i) (λ d. DigitAt input.now i d) }
 {
-    if input.len() <= i {
-        return NONE;
+    match *input.get(i)? {
+        b @ b'0'..=b'9' => Some(u64::from(b - b'0')),
+        _ => None,
     }
-    let b = wide(input[i]);
-    if b < 48 {
-        return NONE;
-    }
-    if 57 < b {
-        return NONE;
-    }
-    b - 48
-}
-
-fn wide(x: u8) -> u64
-    ensures { result ≡ x }
-{
-    x as u64
 }
 
 // The number at i, of at most three digits: after a 0 no digit is looked for.
-fn number_at(input: &[u8], i: usize) -> Token
+fn number_at(input: &[u8], i: usize) -> Option<Token>
     requires { i ≤ length input.now }
-    ensures { NumberAt input.now i result.value result.next }
+    ensures { MatchOption result (NoDigitAt input.now i) (λ t. NumberAt input.now i t.value t.next) }
 {
-    let a = digit_at(input, i);
-    if a == NONE {
-        return Token { value: 0, next: i };
-    }
+    let a = digit_at(input, i)?;
     if a == 0 {
-        return Token {
+        return Some(Token {
             value: 0,
             next: i + 1,
-        };
+        });
     }
-    let b = digit_at(input, i + 1);
-    if b == NONE {
-        return Token {
+    let Some(b) = digit_at(input, i + 1) else {
+        return Some(Token {
             value: a,
             next: i + 1,
-        };
-    }
-    let c = digit_at(input, i + 2);
-    if c == NONE {
-        return Token {
-            value: 10 * a + b,
+        });
+    };
+    let two = 10 * a + b;
+    let Some(c) = digit_at(input, i + 2) else {
+        return Some(Token {
+            value: two,
             next: i + 2,
-        };
-    }
-    Token {
-        value: 10 * (10 * a + b) + c,
+        });
+    };
+    Some(Token {
+        value: 10 * two + c,
         next: i + 3,
-    }
+    })
 }
 
-// The number at i and the byte stop after it.
-fn token_at(input: &[u8], i: usize, stop: u8) -> Token
+// The number at i, where the byte stop stands after it.
+fn token_at(input: &[u8], i: usize, stop: u8) -> Option<Token>
     requires { (i ≤ length input.now) × (stop < 48) }
-    ensures { TokenAt input.now i stop result.value result.next }
+    ensures { MatchOption result (NoTokenAt input.now i stop) (λ t. TokenAt input.now i stop t.value t.next) }
 {
-    let n = number_at(input, i);
-    let next = n.next;
-    if next == i {
-        return Token { value: 0, next: 0 };
+    let n = number_at(input, i)?;
+    if input.get(n.next) != Some(&stop) {
+        return None;
     }
-    if input.len() <= next {
-        return Token { value: 0, next: 0 };
-    }
-    if input[next] != stop {
-        return Token { value: 0, next: 0 };
-    }
-    Token {
+    Some(Token {
         value: n.value,
-        next: next + 1,
-    }
+        next: n.next + 1,
+    })
 }
 
-// What stands where the input is refused.
-fn refused(number: u64) -> Line
-    ensures { (result.number ≡ number) × (result.k ≡ 0) × (result.m ≡ 0) × (result.l ≡ 0) }
+// The three numbers of the line, where the input is one.
+fn parsed(input: &[u8]) -> Option<Line>
+    ensures { MatchOption result ((k : ℕ) (m : ℕ) (l : ℕ) → promise.Line input.now k m l → ⊥) (λ line. promise.Line input.now line.k line.m line.l) }
 {
-    Line {
-        number,
-        k: 0,
-        m: 0,
-        l: 0,
-    }
-}
-
-// 18, or the three numbers of the line.
-fn parsed(input: &[u8]) -> Line
-    ensures { LineRead (line_checks input.now) input.now result.number result.k result.m result.l }
-{
-    let k = token_at(input, 0, b' ');
-    if k.next == 0 {
-        return refused(Number::LINE);
-    }
-    let m = token_at(input, k.next, b' ');
-    if m.next == 0 {
-        return refused(Number::LINE);
-    }
-    let l = token_at(input, m.next, b'\n');
-    if l.next == 0 {
-        return refused(Number::LINE);
-    }
+    let k = token_at(input, 0, b' ')?;
+    let m = token_at(input, k.next, b' ')?;
+    let l = token_at(input, m.next, b'\n')?;
     if l.next != input.len() {
-        return refused(Number::LINE);
+        return None;
     }
-    Line {
-        number: 0,
+    Some(Line {
         k: k.value,
         m: m.value,
         l: l.value,
-    }
+    })
 }
 
 // Reads the line: 18, 1 or 2, or its three numbers.
-pub fn read(input: &[u8]) -> Line
-    ensures { LineRead (sheet_checks input.now) input.now result.number result.k result.m result.l }
+pub fn read(input: &[u8]) -> Result<Line, Refusal>
+    ensures { LineRead (sheet_checks input.now) input.now (told result) (k_given result) (m_given result) (l_given result) }
 {
-    let line = parsed(input);
-    if line.number != 0 {
-        return line;
-    }
-    let size = checks::size_number(line.k, line.m);
-    if size != 0 {
-        return refused(size);
-    }
-    let length = checks::length_number(line.l);
-    if length != 0 {
-        return refused(length);
-    }
-    line
+    let line = parsed(input).ok_or(Refusal::Line)?;
+    checks::check_size(line.k, line.m)?;
+    checks::check_length(line.l)?;
+    Ok(line)
 }

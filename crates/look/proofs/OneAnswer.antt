@@ -6,8 +6,11 @@ use mathlib.Core.List.{List}
 use Prim.Native.Nat.{ℕ, ◌-◌}
 use lib.Dec.{eqb}
 use denote.Ref.{Bor}
+use Rattle.std.specs.Prelude.{Result, Ok}
 use Rattle.bits.specs.Sums.{pick}
 use Rattle.table.specs.Desk.{Desk, desk}
+use Rattle.table.specs.Refusals.{told}
+use Rattle.table.specs.declared.refusals.Refusal.{Refusal}
 use Rattle.table.proofs.AnswerLaws.{answers_agree}
 use Rattle.look.specs.Stages.{Stands}
 use Rattle.look.specs.Promise.{LookedAt, Looked, PartOf, look_checks}
@@ -34,7 +37,12 @@ module _ (k m l : ℕ) (table : List ℕ) (marks source : ℕ) where
 
   -- no two parts: both point at the same byte of the same buffer, and show the same bytes
   pub one_part : (survivors rebuilt r r' : Bor (List ℕ))
-      → Looked k m l table marks source survivors rebuilt r → Looked k m l table marks source survivors rebuilt r' → (r.ref_ptr ≡ r'.ref_ptr) × (r.now ≡ r'.now)
+      → Looked k m l table marks source survivors rebuilt (Ok r) → Looked k m l table marks source survivors rebuilt (Ok r') → (r.ref_ptr ≡ r'.ref_ptr) × (r.now ≡ r'.now)
   one_part survivors rebuilt r r' x y =
       let e = one_place survivors.now rebuilt.now x.told y.told in
       part_once (pick (eqb x.buffer 2) rebuilt survivors) x.start x.length r r' x.part (rw (e.1, e.2, e.3) y.part)
+
+  -- and one number, refused or not
+  pub one_number : (survivors rebuilt : Bor (List ℕ)) (r r' : Result (Bor (List ℕ)) Refusal)
+      → Looked k m l table marks source survivors rebuilt r → Looked k m l table marks source survivors rebuilt r' → told r ≡ told r'
+  one_number survivors rebuilt r r' x y = (one_place survivors.now rebuilt.now x.told y.told).0

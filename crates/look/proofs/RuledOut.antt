@@ -8,6 +8,7 @@ use native.Mathlib.Omega.{arith}
 use lib.ListN as lists
 use lib.Seq.{get_or-take, get_or-drop}
 use denote.Ref.{Bor}
+use Rattle.std.specs.Prelude.{Ok}
 use Rattle.bits.specs.Sums.{at, sum}
 use Rattle.table.specs.Desk.{desk, entry, most, sources_bytes, survivors_bytes, reach, packet_bits, packet_bytes, place_of}
 use Rattle.table.specs.Checks.{Checked, Outside, MarkAbove, shape_checks, asked_checks, input_checks}
@@ -115,35 +116,34 @@ no_marks_cut source survivors rebuilt n x = n (refused-six 0x10009 source surviv
 
 module _ (survivors rebuilt r : Bor (List ℕ)) (lent : Lent survivors.now rebuilt.now) where
   -- packets 1 and 4 at hand: source 2 is handed out as the part of the rebuilt sources at byte 1
-  handed_out : Looked 2 2 1 house 9 2 survivors rebuilt r → PartOf rebuilt 1 1 r
+  handed_out : Looked 2 2 1 house 9 2 survivors rebuilt (Ok r) → PartOf rebuilt 1 1 r
   handed_out x =
       let e = one_place 2 2 1 house 9 2 survivors.now rebuilt.now x.told (second_stands survivors.now rebuilt.now lent) in
       rw (e.1, e.2, e.3) at x.part
 
   -- a copy, which lies elsewhere
-  pub no_copy_handed_out : (r.ref_ptr.0 ≡ rebuilt.ref_ptr.0 → ⊥) → Looked 2 2 1 house 9 2 survivors rebuilt r → ⊥
+  pub no_copy_handed_out : (r.ref_ptr.0 ≡ rebuilt.ref_ptr.0 → ⊥) → Looked 2 2 1 house 9 2 survivors rebuilt (Ok r) → ⊥
   no_copy_handed_out apart x = apart (handed_out x).block
 
   -- a part of the survivors, which lie in another buffer
-  pub no_part_of_the_survivors : (survivors.ref_ptr.0 ≡ rebuilt.ref_ptr.0 → ⊥) → r.ref_ptr.0 ≡ survivors.ref_ptr.0 → Looked 2 2 1 house 9 2 survivors rebuilt r → ⊥
+  pub no_part_of_the_survivors : (survivors.ref_ptr.0 ≡ rebuilt.ref_ptr.0 → ⊥) → r.ref_ptr.0 ≡ survivors.ref_ptr.0 → Looked 2 2 1 house 9 2 survivors rebuilt (Ok r) → ⊥
   no_part_of_the_survivors apart e x = apart (sym e ∙ (handed_out x).block)
 
   -- a byte of the survivors that is not the source's
-  pub no_byte_of_the_survivors : (i : ℕ) → (at survivors.now i ≡ at rebuilt.now 1 → ⊥) → at r.now 0 ≡ at survivors.now i → Looked 2 2 1 house 9 2 survivors rebuilt r → ⊥
+  pub no_byte_of_the_survivors : (i : ℕ) → (at survivors.now i ≡ at rebuilt.now 1 → ⊥) → at r.now 0 ≡ at survivors.now i → Looked 2 2 1 house 9 2 survivors rebuilt (Ok r) → ⊥
   no_byte_of_the_survivors i differs e x =
       differs (sym e ∙ ap (λ l. at l 0) (handed_out x).bytes ∙ get_or-take 1 (lists.drop 1 rebuilt.now) 0 0 (omega arith) ∙ get_or-drop 1 rebuilt.now 0 0)
 
   -- the part at the start of the rebuilt sources
-  pub no_part_at_the_start : r.ref_ptr.1 ≡ rebuilt.ref_ptr.1 → Looked 2 2 1 house 9 2 survivors rebuilt r → ⊥
+  pub no_part_at_the_start : r.ref_ptr.1 ≡ rebuilt.ref_ptr.1 → Looked 2 2 1 house 9 2 survivors rebuilt (Ok r) → ⊥
   no_part_at_the_start e x = omega (arith, e, (handed_out x).place)
 
   -- all of the rebuilt sources, or the empty part
-  pub no_part_of_another_length : (lists.length r.now ≡ 1 → ⊥) → Looked 2 2 1 house 9 2 survivors rebuilt r → ⊥
+  pub no_part_of_another_length : (lists.length r.now ≡ 1 → ⊥) → Looked 2 2 1 house 9 2 survivors rebuilt (Ok r) → ⊥
   no_part_of_another_length n x = n (ap lists.length (handed_out x).bytes ∙ simp (lists.length-take, lists.length-drop) (omega (arith, lent.1)))
 
 -- a source handed out where there is none of that number
-pub no_part_when_refused : (survivors rebuilt r : Bor (List ℕ)) → (lists.length r.now ≡ 0 → ⊥) → Looked 2 2 1 house 9 3 survivors rebuilt r → ⊥
-no_part_when_refused survivors rebuilt r n x =
+pub no_part_when_refused : (survivors rebuilt r : Bor (List ℕ)) → Looked 2 2 1 house 9 3 survivors rebuilt (Ok r) → ⊥
+no_part_when_refused survivors rebuilt r x =
     let six = refused-six 9 3 survivors.now rebuilt.now (inr (inr (omega arith))) x.told in
-    let none = x.told.refused (λ z. omega (arith, six, z)) in
-    n (ap lists.length (rw none.2 at x.part.bytes))
+    omega (arith, six)

@@ -1,10 +1,12 @@
 -- What the calls look and look at promise.
-use Rattle.std.specs.Prelude.{◌≡◌, List, ◌++◌, ℕ, ◌+◌, ◌-◌, eqb}
+use Rattle.std.specs.Prelude.{◌≡◌, Result, IfOk, List, ◌++◌, ℕ, ◌+◌, ◌-◌, eqb}
 use Rattle.std.specs.Borrow.{Bor}
 use Rattle.bits.specs.Sums.{pick}
 use Rattle.bits.specs.Bits.{slice}
 use Rattle.table.specs.Desk.{desk, source_bytes}
 use Rattle.table.specs.Checks.{Checks, Answered, shape_checks}
+use Rattle.table.specs.Refusals.{told}
+use Rattle.table.specs.declared.refusals.Refusal.{Refusal}
 use Rattle.look.specs.Stages.{Stands, found_checks}
 
 -- 1 2 3 6 7 4 4
@@ -25,11 +27,10 @@ pub record PartOf (s : Bor (List ℕ)) (a n : ℕ) (r : Bor (List ℕ)) : Type 0
   pub place : r.ref_ptr.1 ≡ s.ref_ptr.1 + a
   pub bytes : r.now ≡ slice s.now a n
 
--- Look: the part that look at tells, of the rebuilt sources where the buffer is 2, else of the survivors; so refused, the empty part at their start.
-pub record Looked (k m l : ℕ) (table : List ℕ) (marks source : ℕ) (survivors rebuilt r : Bor (List ℕ)) : Type 0 where
-  pub number : ℕ
+-- Look: the number that look at tells; not refused, the part that it tells, of the rebuilt sources where the buffer is 2, else of the survivors.
+pub record Looked (k m l : ℕ) (table : List ℕ) (marks source : ℕ) (survivors rebuilt : Bor (List ℕ)) (r : Result (Bor (List ℕ)) Refusal) : Type 0 where
   pub buffer : ℕ
   pub start : ℕ
   pub length : ℕ
-  pub told : LookedAt k m l table marks source survivors.now rebuilt.now number buffer start length
-  pub part : PartOf (pick (eqb buffer 2) rebuilt survivors) start length r
+  pub told : LookedAt k m l table marks source survivors.now rebuilt.now (told r) buffer start length
+  pub part : IfOk r (PartOf (pick (eqb buffer 2) rebuilt survivors) start length)

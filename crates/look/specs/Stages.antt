@@ -1,7 +1,7 @@
 -- What is left of a look once its shape is accepted, over the desk of that shape.
-use Rattle.std.specs.Prelude.{◌≡◌, ◌⊎◌, true, false, List, ◌++◌, ℕ, ◌-◌, ◌*◌}
+use Rattle.std.specs.Prelude.{◌≡◌, ◌⊎◌, true, false, List, ◌++◌, ℕ, ◌*◌}
 use Rattle.table.specs.Desk.{Desk, sources_bytes, survivors_bytes, place_of}
-use Rattle.table.specs.Checks.{Checks, Answered, asked_checks, input_checks}
+use Rattle.table.specs.Checks.{Checks, asked_checks, input_checks}
 
 module _ (D : Desk) where
   open D use {k, m, bytes, present}
@@ -19,7 +19,3 @@ module _ (D : Desk) where
   Stands i buffer start =
       ((present i ≡ true) × (buffer ≡ 1) × (start ≡ place_of D present i))
       ⊎ ((present i ≡ false) × (buffer ≡ 2) × (start ≡ i * bytes))
-
-  abbrev pub Found : ℕ → ℕ → List ℕ → List ℕ → ℕ → ℕ → ℕ → ℕ → Type 0
-  Found marks source survivors rebuilt number buffer start length =
-      Answered (found_checks marks source survivors rebuilt) number ((buffer ≡ 0) × (start ≡ 0) × (length ≡ 0)) (Stands (source - 1) buffer start × (length ≡ bytes))

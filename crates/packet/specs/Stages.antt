@@ -36,6 +36,3 @@ module _ (D : Desk) (packets : List ℕ) where
   -- 6 7 4 5 8 9 10, for the number of the packet that is wanted, from 1
   abbrev pub wanted_named_checks : ℕ → ℕ → List ℕ → Checks
   wanted_named_checks marks wanted before = asked_checks k m marks (k + m) wanted ++ wanted_lent_checks (wanted - 1) before
-
-  abbrev pub PacketNamed : ℕ → ℕ → List ℕ → ℕ → List ℕ → Type 0
-  PacketNamed marks wanted before number after = Answered (wanted_named_checks marks wanted before) number (after ≡ before) (PacketFound (wanted - 1) after)

@@ -8,6 +8,7 @@ use native.Mathlib.Nat.{mul-le-mul_right}
 use native.Mathlib.Decide.{ℕ_discrete}
 use borrow.Author.Tests.{not-true}
 use lib.ListN.{length}
+use Rattle.std.specs.Prelude.{Option, Some, None, IfSome}
 use Rattle.bits.specs.Sums.{at, count}
 use Rattle.table.specs.Limits.{max_shift}
 use Rattle.table.specs.Desk.{Desk}
@@ -17,25 +18,33 @@ use Rattle.walk.specs.Grow.{GrowsHere, Enough}
 use Rattle.walk.proofs.Totals.{gone}
 use Rattle.walk.proofs.Ends.{some_end}
 use Rattle.walk.proofs.Grow.{every_bit_here}
-use Rattle.plan.specs.Plan.{Listed, AllHeld, EvenRows, EvenColumns, Planned, listed_shift}
+use Rattle.plan.specs.declared.Plan.{Plan}
+use Rattle.plan.specs.Plan.{way_of, Listed, AllHeld, EvenRows, EvenColumns, Planned, listed_shift}
 use Rattle.plan.specs.Even.{Found}
 use Rattle.plan.proofs.ListedLaws.{listed_same, listed_order, listed_count}
 use Rattle.plan.proofs.EvenLaws.{even_grows, even_rows, even_columns}
 
 -- a way that was found, with both lists
-pub found_planned : (D : Desk) (rows columns : List ℕ) (n way : ℕ) (rises : List ℕ) → 1 ≤ n → AllHeld D rows n → Listed (Gone D) columns n → Found D rows columns n way rises
-    → 1 ≤ way → Planned D way n rows columns rises
-found_planned D rows columns n way rises some held gone F l = record {
+found_planned : (D : Desk) (rows columns : List ℕ) (n way : ℕ) (rises : List ℕ) → 1 ≤ n → AllHeld D rows n → Listed (Gone D) columns n → Found D rows columns n way rises
+    → Planned D way n rows columns rises
+found_planned D rows columns n way rises some held gone F = record {
   some = some;
   held = held;
   gone = gone;
-  way_low = l;
-  way_high = F.ways;
-  size = elim (ℕ_discrete way 1) [ yes e ↦ (F.by_rows e).size | no ne ↦ (F.by_columns (omega (arith, F.ways))).size ];
-  first = elim (ℕ_discrete way 1) [ yes e ↦ (F.by_rows e).first | no ne ↦ (F.by_columns (omega (arith, F.ways))).first ];
-  by_rows = λ e. even_rows D rows columns n rises some (F.room l) (F.by_rows e);
-  by_columns = λ e. even_columns D rows columns n rises some (F.room l) (F.by_columns e);
+  way_low = F.way_low;
+  way_high = F.way_high;
+  size = elim (ℕ_discrete way 1) [ yes e ↦ (F.by_rows e).size | no ne ↦ (F.by_columns (omega (arith, F.way_low, F.way_high))).size ];
+  first = elim (ℕ_discrete way 1) [ yes e ↦ (F.by_rows e).first | no ne ↦ (F.by_columns (omega (arith, F.way_low, F.way_high))).first ];
+  by_rows = λ e. even_rows D rows columns n rises some F.room (F.by_rows e);
+  by_columns = λ e. even_columns D rows columns n rises some F.room (F.by_columns e);
 }
+
+-- so a plan that was found, if there is one
+pub plan_found : (D : Desk) (rows columns : List ℕ) (n : ℕ) (r : Option Plan) → 1 ≤ n → AllHeld D rows n → Listed (Gone D) columns n
+    → IfSome r (λ p. (p.rows ≡ rows) × Found D rows columns n (way_of p.way) p.rises)
+    → IfSome r (λ p. Planned D (way_of p.way) n p.rows columns p.rises)
+plan_found D rows columns n None some held gone F = tt
+plan_found D rows columns n (Some p) some held gone F = rw F.0 (found_planned D rows columns n (way_of p.way) p.rises some held gone F.1)
 
 module _ (D : Desk) (way n : ℕ) (rows columns rises : List ℕ) (P : Planned D way n rows columns rises) where
   open D use {k, m, bits, shift, present}

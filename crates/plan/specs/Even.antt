@@ -3,18 +3,18 @@ use Rattle.std.specs.Prelude.{◌≡◌, Bool, true, false, List, ℕ, ◌+◌, 
 use Rattle.bits.specs.Sums.{pick, at}
 use Rattle.table.specs.Limits.{max_k, max_shift}
 use Rattle.table.specs.Desk.{Desk}
-use Rattle.table.specs.declared.Shape.{Shape}
+use Rattle.table.specs.declared.desks.Desk as laid
 use Rattle.plan.specs.Plan.{listed_shift}
 
 -- the marks of the parities turned over: set where a parity is not at hand
 abbrev pub turned_over : ℕ → ℕ → ℕ
 turned_over k marks = 18446744073709551615 - marks / 2 ^ k
 
--- the first n rows and columns are parities and sources of the shape
-pub record Inside (s : Shape) (rows columns : List ℕ) (n : ℕ) : Type 0 where
+-- the first n rows and columns are parities and sources of the desk
+pub record Inside (d : laid.Desk) (rows columns : List ℕ) (n : ℕ) : Type 0 where
   pub few : n ≤ max_k
-  pub rows_in : (i : ℕ) → i < n → at rows i < s.m
-  pub columns_in : (b : ℕ) → b < n → at columns b < s.k
+  pub rows_in : (i : ℕ) → i < n → at rows i < d.m
+  pub columns_in : (b : ℕ) → b < n → at columns b < d.k
 
 -- the shift in row i and column j of those listed; turned, in row j and column i
 unfoldable pub shift_at : Desk → List ℕ → List ℕ → Bool → ℕ → ℕ → ℕ
@@ -48,9 +48,10 @@ module _ (t : ℕ → ℕ → ℕ) (n : ℕ) where
   abbrev pub HasRoom : Type 0
   HasRoom = RoomTo n
 
--- the way found: 0 none, 1 by rows, 2 by columns
+-- the way found: 1 by rows, 2 by columns
 pub record Found (D : Desk) (rows columns : List ℕ) (n way : ℕ) (v : List ℕ) : Type 0 where
-  pub ways : way ≤ 2
-  pub room : 1 ≤ way → HasRoom (shift_at D rows columns false) n
+  pub way_low : 1 ≤ way
+  pub way_high : way ≤ 2
+  pub room : HasRoom (shift_at D rows columns false) n
   pub by_rows : way ≡ 1 → Even (shift_at D rows columns false) n v
   pub by_columns : way ≡ 2 → Even (shift_at D rows columns true) n v

@@ -4,6 +4,12 @@ use Rattle.bits.specs.Sums.{at}
 use Rattle.table.specs.Limits.{max_k, max_m, max_shift}
 use Rattle.table.specs.Desk.{Desk}
 use Rattle.walk.specs.Walk.{Gone, Held}
+use Rattle.plan.specs.declared.Way.{Way}
+
+-- the numbers of the ways: 1 by rows, 2 by columns
+abbrev pub way_of : Way → ℕ
+way_of Way.Rows = 1
+way_of Way.Columns = 2
 
 -- the first n of a list are the numbers of a kind, all of them, in order
 pub record Listed (Kind : ℕ → Type 0) (list : List ℕ) (n : ℕ) : Type 0 where

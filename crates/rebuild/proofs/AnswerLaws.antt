@@ -1,22 +1,41 @@
 -- From what the data half gives to the numbers 8, 9 and 10. Assumes nothing.
-use mathlib.Core.Path.{◌≡◌, refl, sym, ◌∙◌, subst}
+use mathlib.Core.Path.{◌≡◌, refl, sym, ap, ◌∙◌, subst}
 use mathlib.Core.Logic.{inl, inr}
 use mathlib.Core.Bool.{Bool, true, false}
-use mathlib.Core.List.{List}
+use mathlib.Core.List.{List, ◌++◌}
 use Prim.Native.Nat.{ℕ}
 use native.Mathlib.Omega.{arith}
 use lib.ListN.{length}
 use lib.Seq.{take_all}
+use Rattle.std.specs.Prelude.{Result, Ok, Err}
+use Rattle.std.specs.Result.{IsErrAnd}
 use Rattle.table.specs.Desk.{Desk, sources_bytes}
+use Rattle.table.specs.Checks.{Checks, Checked, Answered}
+use Rattle.table.specs.Refusals.{number_of}
+use Rattle.table.specs.declared.refusals.Refusal.{Refusal}
+use Rattle.table.proofs.CheckLaws.{Below, checked_below}
+use Rattle.table.proofs.AnswerLaws.{answer_stops}
+use Rattle.table.proofs.RefusalLaws.{numbered}
 use Rattle.walk.specs.Ends.{Finishes}
 use Rattle.walk.proofs.Ends.{ended_finishes, finishes_ended}
 use Rattle.survivors.specs.Packets.{Stray, EncodesTo}
 use Rattle.decode.specs.Data.{ReadBack}
+use Rattle.rebuild.specs.Parts.{rebuild_number, rebuild_count}
+use Rattle.rebuild.specs.declared.Unread.{Unread}
 use Rattle.rebuild.specs.Stages.{StepsTold, SourcesFound, Recovered, RebuildMade}
 
 -- a number that is not 8 tells no steps
 pub untold : (D : Desk) (number count : ℕ) → (number ≡ 8 → ⊥) → count ≡ 0 → StepsTold D number count
 untold D number count n z = ((λ e. absurd (n e)), λ _. z)
+
+-- refused with its shape: no step is told
+pub unread_stops : (D : Desk) (cs ds : Checks) (e : Refusal) (r : Result ℕ Unread) {P Done : Type 0} → Below 8 cs → Checked cs (number_of e)
+    → IsErrAnd r (λ u. (u.refusal ≡ e) × (u.count ≡ 0)) → P → Answered (cs ++ ds) (rebuild_number r) (P × StepsTold D (rebuild_number r) (rebuild_count r)) Done
+unread_stops D cs ds e (Ok n) b c x p = absurd x
+unread_stops D cs ds e (Err u) b c x p =
+    let n = ap number_of x.0 in
+    answer_stops cs ds (number_of e) (number_of u.refusal) c (numbered e) n
+    (p, untold D (number_of u.refusal) u.count (λ z. omega (arith, n, checked_below 8 cs (number_of e) (omega arith) b c)) x.1)
 
 -- refused, the output keeps its bytes; done, it is the sources
 pub made_refused : (D : Desk) (packets before : List ℕ) (number count : ℕ) (x : List ℕ) → (number ≡ 0 → ⊥)

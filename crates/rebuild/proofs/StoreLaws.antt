@@ -1,15 +1,12 @@
 -- Sources stored one after another, from the rows. Assumes nothing.
-use mathlib.Core.Path.{◌≡◌, refl, ◌∙◌}
-use mathlib.Core.List.{List, []}
+use mathlib.Core.Path.{◌≡◌, ◌∙◌}
+use mathlib.Core.List.{List}
 use Prim.Native.Nat.{ℕ, ◌+◌, ◌*◌, ◌<◌}
 use native.Mathlib.Omega.{arith}
 use native.Mathlib.Nat.{mul-le-mul_right}
 use native.Mathlib.Decide.{ℕ_discrete}
 use Rattle.bits.specs.Bits.{bit_at}
-use Rattle.table.specs.Table.{desk_of}
-use Rattle.table.specs.declared.Shape.{Shape}
 use Rattle.rows.specs.Rows.{row_in, Stored}
-use Rattle.survivors.specs.Remainders.{sources_in}
 
 module _ (bytes : ℕ) (rows : List ℕ) where
   -- the first n sources stand in their places
@@ -24,8 +21,3 @@ module _ (bytes : ℕ) (rows : List ℕ) where
     | yes e ↦ rw (← e) (S.here q lq)
     | no ne ↦ let before : c < n = omega arith in S.below (8 * (c * bytes) + q) (omega (arith, mul-le-mul_right bytes before)) ∙ h c q before lq
   ]
-
--- the sources in the rows ask for no shift
-pub no_shift_asked : (s : Shape) (shifts rows : List ℕ) → sources_in (desk_of s []) rows ≡ sources_in (desk_of s shifts) rows
-unfolding sources_in
-no_shift_asked s shifts rows = refl

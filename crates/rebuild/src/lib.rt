@@ -1,123 +1,117 @@
 // Rebuilding: the sources read back from any k packets.
 #![tactic(auto)]
 
-ghost use Rattle.std.specs.Prelude.{◌≡◌, [], length, ℕ, ◌≤◌};
+ghost use Rattle.std.specs.Prelude.{◌≡◌, [], length, ℕ, ◌≤◌, OnOk};
 ghost use Rattle.rows.specs.Rows.{row_in};
 ghost use Rattle.table.specs.Limits.{max_k, max_length};
-ghost use Rattle.table.specs.Desk.{sources_bytes};
-ghost use Rattle.table.specs.Table.{Ready, Reaches, Survivors, desk_of};
+ghost use Rattle.table.specs.Desk.{desk, sources_bytes};
+ghost use Rattle.table.specs.Desks.{Ready, Survivors, desk_of};
 ghost use Rattle.survivors.specs.Remainders.{Roomy, sources_in, InBytes, NoRest};
 ghost use Rattle.rebuild.specs.Stages.{Recovered, RebuildMade, RebuildGiven};
 ghost use Rattle.rebuild.specs.Promise.{Rebuilt};
+ghost use Rattle.rebuild.specs.Parts.{rebuild_number, rebuild_count};
 
-use table::{Number, Shape, Table};
+use table::{Desk, Refusal};
 
-// What rebuild gives: the count of steps, with 8 those made before the stall.
-#[derive(Clone, Copy)]
-pub struct RebuildAnswer {
-    pub number: u64,
+// Why no sources were read: the refusal, and with a stall the count of steps made before it, else 0.
+#[derive(Clone, Copy, Debug, PartialEq, Eq)]
+pub struct Unread {
+    pub refusal: Refusal,
     pub count: u64,
 }
 
-// 8, 9 and 10, and the sources that encode to the packets, in rows that were noughts; then nothing is left of any parity.
-pub fn recover(
-    s: Shape,
-    shifts: &[u8; Table::CELLS],
-    reaches: &[u8; Table::PARITIES],
-    packets: &[u8],
-    rows: &mut [u64],
-) -> RebuildAnswer
-    requires ready { Ready s shifts.now }
-    requires reaches { Reaches s shifts.now reaches.now }
-    requires survivors { Survivors s shifts.now packets.now }
+// A refusal with no count.
+impl From<Refusal> for Unread {
+    ghost from_gives = { λ r e. (e.refusal ≡ r) × (e.count ≡ 0) };
+
+    fn from(refusal: Refusal) -> Unread {
+        Unread { refusal, count: 0 }
+    }
+}
+
+// The refusal alone.
+impl From<Unread> for Refusal {
+    ghost from_gives = { λ e r. r ≡ e.refusal };
+
+    fn from(unread: Unread) -> Refusal {
+        unread.refusal
+    }
+}
+
+// 8, 9 and 10, and the sources that encode to the packets, in rows that were noughts; then nothing is left of any parity. Gives the count of steps.
+pub fn recover(desk: &Desk, packets: &[u8], rows: &mut [u64]) -> Result<u64, Unread>
+    requires ready { Ready desk.now }
+    requires survivors { Survivors desk.now packets.now }
     requires roomy { Roomy rows.old }
     requires by_index { (i p : ℕ) → row_in rows.old i p ≡ 0 }
-    ensures recovered { Recovered (desk_of s shifts.now) packets.now result.number result.count (sources_in (desk_of s shifts.now) rows.new) }
-    ensures in_bytes { InBytes (desk_of s shifts.now) rows.new × (result.number ≡ 0 → NoRest (desk_of s shifts.now) rows.new) }
+    ensures recovered { Recovered (desk_of desk.now) packets.now (rebuild_number result) (rebuild_count result) (sources_in (desk_of desk.now) rows.new) }
+    ensures in_bytes { InBytes (desk_of desk.now) rows.new × OnOk result (NoRest (desk_of desk.now) rows.new) }
 {
-    let d = decode::read_back(s, shifts, reaches, packets, rows);
+    let d = decode::read_back(desk, packets, rows);
     if !d.whole {
-        return RebuildAnswer {
-            number: Number::STALL,
+        return Err(Unread {
+            refusal: Refusal::Stall,
             count: d.count,
-        };
+        });
     }
-    if survivors::stray(s, shifts, reaches, packets) {
-        return refused(Number::STRAY);
+    if survivors::stray(desk, packets) {
+        return Err(Unread::from(Refusal::Stray));
     }
     if !d.consistent {
-        return refused(Number::FOREIGN);
+        return Err(Unread::from(Refusal::Foreign));
     }
-    RebuildAnswer {
-        number: 0,
-        count: d.count,
-    }
+    Ok(d.count)
 }
 
-// A number with no count.
-fn refused(number: u64) -> RebuildAnswer
-    ensures { (result.number ≡ number) × (result.count ≡ 0) }
-{
-    RebuildAnswer { number, count: 0 }
-}
-
-// The sources in the rows into out, which has their length.
-pub fn store_sources(s: Shape, rows: &[u64], out: &mut [u8])
-    requires k_le_max_k { s.k ≤ max_k }
-    requires length_le_max_length { s.length ≤ max_length }
+// The k sources of so many bytes that stand in the rows into out, which has their length.
+pub fn put_sources(k: usize, l: usize, rows: &[u64], out: &mut [u8])
+    requires k_le_max_k { k ≤ max_k }
+    requires l_le_max_length { l ≤ max_length }
     requires roomy { Roomy rows.now }
-    requires out_len { length out.old ≡ sources_bytes (desk_of s []) }
-    ensures { out.new ≡ sources_in (desk_of s []) rows.now }
+    requires out_len { length out.old ≡ sources_bytes (desk k 0 l [] 0) }
+    ensures { out.new ≡ sources_in (desk k 0 l [] 0) rows.now }
 {
-    let bytes = table::source_bytes(s);
-    let mut c = 0;
-    while c < s.k {
+    let bytes = table::packets::source_bytes(l);
+    for c in 0..k {
         rows::bytes::store(rows, c, out, c * bytes, bytes);
-        c += 1;
     }
     bits::known(out);
 }
 
+// The sources of a desk in the rows into out, which has their length.
+pub fn store_sources(desk: &Desk, rows: &[u64], out: &mut [u8])
+    requires roomy { Roomy rows.now }
+    requires out_len { length out.old ≡ sources_bytes (desk_of desk.now) }
+    ensures { out.new ≡ sources_in (desk_of desk.now) rows.now }
+{
+    put_sources(desk.k, desk.length, rows, out);
+}
+
 // 8, 9 and 10, and the sources into out, which has their length; refused, out as it was.
-fn rebuild_into(
-    s: Shape,
-    shifts: &[u8; Table::CELLS],
-    reaches: &[u8; Table::PARITIES],
-    packets: &[u8],
-    out: &mut [u8],
-) -> RebuildAnswer
-    requires ready { Ready s shifts.now }
-    requires reaches { Reaches s shifts.now reaches.now }
-    requires survivors { Survivors s shifts.now packets.now }
-    requires out_len { length out.old ≡ sources_bytes (desk_of s shifts.now) }
-    ensures { RebuildMade (desk_of s shifts.now) packets.now out.old result.number result.count out.new }
+fn rebuild_into(desk: &Desk, packets: &[u8], out: &mut [u8]) -> Result<u64, Unread>
+    requires ready { Ready desk.now }
+    requires survivors { Survivors desk.now packets.now }
+    requires out_len { length out.old ≡ sources_bytes (desk_of desk.now) }
+    ensures { RebuildMade (desk_of desk.now) packets.now out.old (rebuild_number result) (rebuild_count result) out.new }
 {
     let mut rows = [0u64; survivors::WORDS];
-    let r = recover(s, shifts, reaches, packets, &mut rows);
-    if r.number != 0 {
-        return r;
-    }
-    store_sources(s, &rows, out);
-    r
+    let count = recover(desk, packets, &mut rows)?;
+    store_sources(desk, &rows, out);
+    Ok(count)
 }
 
 // 4 and 5, and what is left of rebuild.
-fn rebuild_lent(
-    s: Shape,
-    shifts: &[u8; Table::CELLS],
-    packets: &[u8],
-    out: &mut [u8],
-) -> RebuildAnswer
-    requires { Ready s shifts.now }
-    ensures { RebuildGiven (desk_of s shifts.now) packets.now out.old result.number result.count out.new }
+fn rebuild_lent(desk: &Desk, packets: &[u8], out: &mut [u8]) -> Result<u64, Unread>
+    requires ready { Ready desk.now }
+    ensures { RebuildGiven (desk_of desk.now) packets.now out.old (rebuild_number result) (rebuild_count result) out.new }
 {
-    let reaches = table::packets::reaches(s, shifts);
-    let needed = table::packets::bytes_of_survivors(s, shifts, &reaches);
-    let number = checks::lengths_number(packets, needed, out, table::packets::sources_bytes(s));
-    if number != 0 {
-        return refused(number);
-    }
-    rebuild_into(s, shifts, &reaches, packets, out)
+    checks::check_lengths(
+        packets,
+        desk.bytes_of_survivors(),
+        out,
+        desk.sources_bytes(),
+    )?;
+    rebuild_into(desk, packets, out)
 }
 
 // All sources from the packets at hand, in order, and the count of steps.
@@ -129,12 +123,9 @@ pub fn rebuild(
     marks: u64,
     packets: &[u8],
     out: &mut [u8],
-) -> RebuildAnswer
-    ensures { Rebuilt k m l table.now marks packets.now out.old result.number result.count out.new }
+) -> Result<u64, Unread>
+    ensures { Rebuilt k m l table.now marks packets.now out.old (rebuild_number result) (rebuild_count result) out.new }
 {
-    let o = checks::open_marked(k, m, l, table, marks);
-    if o.number != 0 {
-        return refused(o.number);
-    }
-    rebuild_lent(o.shape, &o.table.shifts, packets, out)
+    let desk = checks::open_marked(k, m, l, table, marks)?;
+    rebuild_lent(&desk, packets, out)
 }

@@ -1,10 +1,8 @@
 -- A word cut short, and a row word by word. Assumes nothing.
-use Rattle.std.proofs.Common.{◌≡◌, ℕ, ◌+◌, ◌-◌, ◌*◌, ◌%◌, ◌^◌, ◌<◌, ◌≤◌, cond, ltb, List, refl, ap, ◌∙◌, mod-lt, arith, lit<, pow_pos, shl_exact, le-ltb, lt-ltb}
+use Rattle.std.proofs.Common.{◌≡◌, ℕ, ◌+◌, ◌-◌, ◌*◌, ◌%◌, ◌^◌, ◌<◌, ◌≤◌, cond, ltb, ap, ◌∙◌, mod-lt, arith, lit<, pow_pos, shl_exact, le-ltb, lt-ltb}
 use native.Mathlib.Decide.{dec_lt}
 use Rattle.bits.specs.Bits.{bit}
 use Rattle.bits.proofs.BitLaws.{bit_mod, bit_high, bit_zero}
-use Rattle.rows.specs.Rows.{row_in}
-use Rattle.rows.proofs.RowLaws.{SetTo}
 
 -- 1 shifted up within a word
 pub one_shl : (d : ℕ) → d < 64 → 1 * 2 ^ d % 2 ^ 64 ≡ 2 ^ d
@@ -25,7 +23,3 @@ module _ (x from n t : ℕ) (lt : t < 64) where
     | yes s ↦ rw (lt-ltb (from + t) n s) (bit_mod x (n - from) t (omega arith))
     | no s ↦ rw (le-ltb (from + t) n (omega arith)) (bit_high (x % 2 ^ (n - from)) (n - from) t (mod-lt x (pow_pos (n - from))) (omega arith))
   ]
-
--- the words before the one that bit n stands in are as they were
-pub cut_none : (a n c : ℕ) (rows : List ℕ) → c * 64 ≤ n → SetTo a (cut_at n (row_in rows a)) c rows rows
-cut_none a n c rows l = record { done = λ p lp. rw (lt-ltb p n (omega arith)); rest = λ d p g. refl }

@@ -1,5 +1,5 @@
 -- Laws of rows in which nothing is set: all their words, put into one by OR, are 0. Assumes nothing.
-use Rattle.std.proofs.Common.{◌≡◌, ℕ, ◌+◌, ◌*◌, ◌/◌, ◌%◌, ◌^◌, ◌<◌, ◌≤◌, eqb, List, sym, refl, ap, ◌∙◌, subst, ap₂, arith, eqb-true}
+use Rattle.std.proofs.Common.{◌≡◌, ℕ, ◌+◌, ◌*◌, ◌/◌, ◌%◌, ◌^◌, ◌<◌, ◌≤◌, eqb, List, sym, ap, ◌∙◌, subst, ap₂, arith, eqb-true}
 use native.Mathlib.Decide.{dec_lt, ℕ_discrete}
 use borrow.Author.Tests.{eqb-false}
 use lib.Bits.{bit_or, and_le_l, and_le_r, or_add_and, or_zero_l}
@@ -33,9 +33,6 @@ module _ (rows : List ℕ) (a n : ℕ) where
   pub record Gathered (i x : ℕ) : Type 0 where
     pub clear : x ≡ 0 → (j : ℕ) → a * row_words ≤ j → j < i → at rows j ≡ 0
     pub none : ClearRows → x ≡ 0
-
-  pub gathered_none : Gathered (a * row_words) 0
-  gathered_none = record { clear = λ e j l m. absurd (omega arith); none = λ h. refl }
 
   -- one word more
   pub gathered_more : (i x : ℕ) → a * row_words ≤ i → i < (a + n) * row_words → at rows i < 2 ^ 64 → Gathered i x → Gathered (i + 1) (bit_or x (at rows i))

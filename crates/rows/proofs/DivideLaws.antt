@@ -1,36 +1,6 @@
 -- Laws of division by z ^ e, and by 1 + z ^ d: of bits, of a word, and of a row word by word. Assumes nothing.
-use Rattle.std.proofs.Common.{
-  ◌≡◌,
-  ℕ,
-  zero,
-  suc,
-  ◌+◌,
-  ◌-◌,
-  ◌*◌,
-  ◌/◌,
-  ◌%◌,
-  ◌^◌,
-  ◌<◌,
-  ◌≤◌,
-  cond,
-  ltb,
-  ◌≢◌,
-  List,
-  set,
-  sym,
-  refl,
-  ap,
-  ◌∙◌,
-  ap₂,
-  mul_comm,
-  mul-le-mul,
-  div-add-mod',
-  arith,
-  get_or-set_other,
-  pow_mono,
-  le-ltb,
-  lt-ltb,
-}
+use Rattle.std.proofs.Common.{◌≡◌, ℕ, zero, suc, ◌+◌, ◌-◌, ◌*◌, ◌/◌, ◌%◌, ◌^◌, ◌<◌, ◌≤◌, cond, ltb, ◌≢◌, List, set, ◌∙◌}
+use Rattle.std.proofs.Common.{sym, refl, ap, ap₂, mul_comm, div-add-mod', arith, get_or-set_other, pow_mono, le-ltb, lt-ltb}
 use native.Mathlib.Nat.{mod-add-mod, add-mod-mod, add-mul-mod_self_right}
 use native.Mathlib.Decide.{dec_lt}
 use lib.Bits.{bit_xor}
@@ -124,10 +94,6 @@ mul_mod_of n a k =
     let parts : a * k ≡ a % n * k + a / n * k * n = omega (arith, ap (λ x. x * k) (div-add-mod' a n)) in
     sym (ap (λ x. x % n) parts ∙ add-mul-mod_self_right (a % n * k) (a / n * k) n)
 
--- the product of halves of words fits a word
-pub halves_fit : (a b : ℕ) → a < 2 ^ 32 → b < 2 ^ 32 → a * b < 2 ^ 64
-halves_fit a b la lb = omega (arith, mul-le-mul {n₁ = a} {m₁ = b} {n₂ = 2 ^ 32 - 1} {m₂ = 2 ^ 32 - 1} (omega arith) (omega arith))
-
 -- the product of words, by halves
 pub times_halves : (x₁ x₀ y₁ y₀ n : ℕ) → (x₀ * y₀ + (x₀ * y₁ + x₁ * y₀) % (n * n) * n % (n * n)) % (n * n) ≡ (x₁ * n + x₀) * (y₁ * n + y₀) % (n * n)
 times_halves x₁ x₀ y₁ y₀ n =
@@ -177,9 +143,6 @@ word_joined d c y x s carry w ld small made half carries wave =
 -- ---- a row's words
 
 module _ (a : ℕ) where
-  pub each_same : (R : ℕ → ℕ → Type 0) (rows : List ℕ) → ((x : ℕ) → R x x) → EachWord a R rows rows
-  each_same R rows h = record { here = λ c l. h _; others = λ c p ne. refl }
-
   pub each_then : (R S T : ℕ → ℕ → Type 0) (rows rows' rows'' : List ℕ) → ((x y z : ℕ) → R x y → S y z → T x z) → EachWord a R rows rows' → EachWord a S rows' rows'' → EachWord a T rows rows''
   each_then R S T rows rows' rows'' then h h' = record { here = λ c l. then _ _ _ (h.here c l) (h'.here c l); others = λ c p ne. h'.others c p ne ∙ h.others c p ne }
 

@@ -1,5 +1,5 @@
 // Rows made of bytes and made into bytes; and one bit of a row, or a whole row, looked at or changed.
-ghost use Rattle.std.specs.Prelude.{◌≡◌, ℕ, ◌+◌, ◌*◌, ◌/◌, ◌%◌, ◌^◌, ◌<◌, ◌≤◌, length, slice_index};
+ghost use Rattle.std.specs.Prelude.{◌≡◌, ℕ, ◌+◌, ◌*◌, ◌/◌, ◌%◌, ◌^◌, ◌<◌, ◌≤◌, length};
 ghost use Rattle.bits.specs.Sums.{one_at};
 ghost use Rattle.bits.specs.Bits.{bit, bit_at, up, Tells};
 ghost use Rattle.table.specs.Limits.{max_shift, longest};
@@ -12,6 +12,7 @@ use table::Table;
 const MOST_WORDS: usize = Table::MAX_BYTES / 8;
 
 // Adds src, shifted up by e bits, into row a. The longest sources have a branch of their own: there the compiler knows how many words there are, and writes all of them out.
+#[inline(always)]
 pub fn add_bytes(rows: &mut [u64], a: usize, src: &[u8], e: usize)
     requires has_row { HasRow rows.old a }
     requires e_le_max_shift { e ≤ max_shift }
@@ -58,13 +59,12 @@ fn add_whole(rows: &mut [u64], a: usize, src: &[u8], first: usize, whole: usize)
     requires whole_value { whole ≡ length src.now / 8 }
     ensures { AddedTo a (up (first * 64) (bit_at src.now)) rows.old rows.new }
 {
-    let mut c = 0;
-    while c < whole {
-        rows[a * ROW_WORDS + (first + c)] ^= word(src, 8 * c);
-        c += 1;
+    for c in 0..whole {
+        let i = 8 * c;
+        rows[a * ROW_WORDS + (first + c)] ^= eight(&src[i..i + 8]);
     }
-    if first + c < ROW_WORDS {
-        rows[a * ROW_WORDS + (first + c)] ^= tail(src, 8 * c);
+    if first + whole < ROW_WORDS {
+        rows[a * ROW_WORDS + (first + whole)] ^= tail(src, 8 * whole);
     }
 }
 
@@ -78,22 +78,20 @@ fn add_crossing(rows: &mut [u64], a: usize, src: &[u8], s: usize, whole: usize)
     ensures { AddedTo a (up s (bit_at src.now)) rows.old rows.new }
 {
     let mut last: u64 = 0;
-    let mut c = 0;
-    while c < whole {
+    for c in 0..whole {
         let i = 8 * c;
         let x = eight(&src[i..i + 8]);
         rows[a * ROW_WORDS + c] ^= x << s | last >> (64 - s);
         last = x;
-        c += 1;
     }
-    if 8 * c == src.len() {
-        rows[a * ROW_WORDS + c] ^= last >> (64 - s);
+    if 8 * whole == src.len() {
+        rows[a * ROW_WORDS + whole] ^= last >> (64 - s);
         return;
     }
-    let x = tail(src, 8 * c);
-    rows[a * ROW_WORDS + c] ^= x << s | last >> (64 - s);
-    if c + 1 < ROW_WORDS {
-        rows[a * ROW_WORDS + (c + 1)] ^= x >> (64 - s);
+    let x = tail(src, 8 * whole);
+    rows[a * ROW_WORDS + whole] ^= x << s | last >> (64 - s);
+    if whole + 1 < ROW_WORDS {
+        rows[a * ROW_WORDS + (whole + 1)] ^= x >> (64 - s);
     }
 }
 
@@ -102,44 +100,20 @@ fn eight(src: &[u8]) -> u64
     requires { length src.now ≡ 8 }
     ensures { (result < 2 ^ 64) × ((t : ℕ) → t < 64 → bit result t ≡ bit_at src.now t) }
 {
-    half(src, 0) + half(src, 4) * 4294967296
+    u64::from_le_bytes([
+        src[0], src[1], src[2], src[3], src[4], src[5], src[6], src[7],
+    ])
 }
 
-// The eight bytes of src from byte i on as one number, the first the lowest: the second half counts 2^32 times as much as the first.
-fn word(src: &[u8], i: usize) -> u64
-    requires { i + 8 ≤ length src.now }
-    ensures { (result < 2 ^ 64) × ((t : ℕ) → t < 64 → bit result t ≡ bit_at src.now (8 * i + t)) }
-{
-    half(src, i) + half(src, i + 4) * 4294967296
-}
-
-// The four bytes of src from byte i on as one number, the first the lowest. Written out, so that the compiler can make one load of them.
-fn half(src: &[u8], i: usize) -> u64
-    requires { i + 4 ≤ length src.now }
-    ensures { (result ≡ slice_index src.now i + slice_index src.now (i + 1) * 256 + slice_index src.now (i + 2) * 65536 + slice_index src.now (i + 3) * 16777216)
-        × (result < 4294967296) }
-{
-    wide(src[i]) + wide(src[i + 1]) * 256 + wide(src[i + 2]) * 65536 + wide(src[i + 3]) * 16777216
-}
-
-// x with 64 bits, so that a shift loses nothing.
-fn wide(x: u8) -> u64
-    ensures { (result ≡ x) × (result < 256) }
-{
-    x as u64
-}
-
-// The bytes of src from byte `from` on, less than eight, as one number, the first the lowest.
+// The bytes of src from byte `from` on, less than eight, as one number, the first the lowest. Byte by byte: a copy of so few takes longer.
 fn tail(src: &[u8], from: usize) -> u64
     requires from_in_bounds { from ≤ length src.now }
     requires src_len_bound { length src.now < from + 8 }
     ensures { (result < 2 ^ 64) × ((t : ℕ) → t < 64 → bit result t ≡ bit_at src.now (8 * from + t)) }
 {
     let mut x: u64 = 0;
-    let mut i = src.len();
-    while from < i {
-        i -= 1;
-        x = x * 256 + wide(src[i]);
+    for i in (from..src.len()).rev() {
+        x = x * 256 + u64::from(src[i]);
     }
     x
 }
@@ -152,47 +126,31 @@ pub fn store(rows: &[u64], a: usize, dst: &mut [u8], from: usize, n: usize)
     ensures { Stored from n (row_in rows.now a) dst.old dst.new }
 {
     let whole = n / 8;
-    let mut c = 0;
-    while c < whole {
+    for c in 0..whole {
         put_word(dst, from + 8 * c, rows[a * ROW_WORDS + c]);
-        c += 1;
     }
-    if c == ROW_WORDS {
+    if whole == ROW_WORDS {
         return;
     }
-    put_tail(dst, from + 8 * c, rows[a * ROW_WORDS + c], n % 8);
+    put_tail(dst, from + 8 * whole, rows[a * ROW_WORDS + whole], n % 8);
 }
 
-// Puts the eight bytes of x, the lowest first, into dst from byte i on.
+// Puts the eight bytes of x, the lowest first, into dst from byte i on. The compiler makes one store of them.
 fn put_word(dst: &mut [u8], i: usize, x: u64)
     requires { i + 8 ≤ length dst.old }
     ensures { Stored i 8 (bit x) dst.old dst.new }
 {
-    put_half(dst, i, x);
-    put_half(dst, i + 4, x >> 32);
+    dst[i..i + 8].copy_from_slice(&x.to_le_bytes());
 }
 
-// Puts the four low bytes of x, the lowest first, into dst from byte i on. Written out, so that the compiler can make one store of them.
-fn put_half(dst: &mut [u8], i: usize, x: u64)
-    requires { i + 4 ≤ length dst.old }
-    ensures { Stored i 4 (bit x) dst.old dst.new }
-{
-    dst[i] = (x % 256) as u8;
-    dst[i + 1] = (x / 256 % 256) as u8;
-    dst[i + 2] = (x / 65536 % 256) as u8;
-    dst[i + 3] = (x / 16777216 % 256) as u8;
-}
-
-// Puts the n low bytes of x, the lowest first, into dst from byte i on.
+// Puts the n low bytes of x, the lowest first, into dst from byte i on. Byte by byte: a copy of so few takes longer.
 fn put_tail(dst: &mut [u8], i: usize, x: u64, n: usize)
     requires n_bound { n < 8 }
     requires n_in_bounds { i + n ≤ length dst.old }
     ensures { Stored i n (bit x) dst.old dst.new }
 {
-    let mut j = 0;
-    while j < n {
+    for j in 0..n {
         dst[i + j] = ((x >> (8 * j)) % 256) as u8;
-        j += 1;
     }
 }
 
@@ -212,7 +170,7 @@ pub fn flip(rows: &mut [u64], a: usize, p: usize, v: u8)
     requires v_bound { v < 2 }
     ensures { AddedTo a (λ q. v * one_at p q) rows.old rows.new }
 {
-    rows[a * ROW_WORDS + p / 64] ^= wide(v) << (p % 64);
+    rows[a * ROW_WORDS + p / 64] ^= u64::from(v) << (p % 64);
 }
 
 // Whether nothing is set in the n rows from row a on.
@@ -222,10 +180,8 @@ pub fn clear_rows(rows: &[u64], a: usize, n: usize) -> bool
 {
     let end = (a + n) * ROW_WORDS;
     let mut x: u64 = 0;
-    let mut i = a * ROW_WORDS;
-    while i < end {
+    for i in a * ROW_WORDS..end {
         x |= rows[i];
-        i += 1;
     }
     x == 0
 }

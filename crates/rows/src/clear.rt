@@ -10,10 +10,8 @@ pub fn clear_from(rows: &mut [u64], a: usize, n: usize)
     requires { HasRow rows.old a }
     ensures { Became a (λ p. (if nat_lt p n then row_in rows.old a p else 0)) rows.old rows.new }
 {
-    let mut c = n / 64;
-    while c < ROW_WORDS {
+    for c in n / 64..ROW_WORDS {
         rows[a * ROW_WORDS + c] = kept(rows[a * ROW_WORDS + c], 64 * c, n);
-        c += 1;
     }
 }
 

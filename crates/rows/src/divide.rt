@@ -26,13 +26,12 @@ pub fn lower(rows: &mut [u64], a: usize, e: usize)
     if e == 0 {
         return;
     }
-    let mut c = 0;
-    while c + 1 < ROW_WORDS {
+    let last = ROW_WORDS - 1;
+    for c in 0..last {
         rows[a * ROW_WORDS + c] = rows[a * ROW_WORDS + c] >> 1 >> (e - 1)
             ^ rows[a * ROW_WORDS + c + 1] << (64 - e);
-        c += 1;
     }
-    rows[a * ROW_WORDS + c] = rows[a * ROW_WORDS + c] >> 1 >> (e - 1);
+    rows[a * ROW_WORDS + last] = rows[a * ROW_WORDS + last] >> 1 >> (e - 1);
 }
 
 // Divides row a by 1 + z ^ d: each word by itself, then what each sends on into the next.
@@ -64,10 +63,8 @@ fn double_words(rows: &mut [u64], a: usize, e: usize)
     requires e_bound { e < 64 }
     ensures { EachWord a (λ x r. Twice e r x) rows.old rows.new }
 {
-    let mut c = 0;
-    while c < ROW_WORDS {
+    for c in 0..ROW_WORDS {
         rows[a * ROW_WORDS + c] ^= rows[a * ROW_WORDS + c] << e;
-        c += 1;
     }
 }
 
@@ -93,12 +90,10 @@ fn carry_on(rows: &mut [u64], a: usize, d: usize, comb: u64)
     ensures { (before : List ℕ) → EachWord a (Twice d) before rows.old → Halved a d before rows.new }
 {
     let mut carry: u64 = 0;
-    let mut c = 0;
-    while c < ROW_WORDS {
+    for c in 0..ROW_WORDS {
         let x = rows[a * ROW_WORDS + c] ^ times(carry, comb);
         rows[a * ROW_WORDS + c] = x;
         carry = x >> (64 - d);
-        c += 1;
     }
 }
 

@@ -40,12 +40,10 @@ fn add_raised(rows: &mut [u64], a: usize, b: usize, e: usize)
     ensures { AddedTo a (up e (row_in rows.old b)) rows.old rows.new }
 {
     let mut carry: u64 = 0;
-    let mut c = 0;
-    while c < ROW_WORDS {
+    for c in 0..ROW_WORDS {
         let x = rows[b * ROW_WORDS + c];
         rows[a * ROW_WORDS + c] ^= x << e ^ carry;
         carry = x >> 1 >> (63 - e);
-        c += 1;
     }
 }
 
@@ -56,9 +54,7 @@ fn add_next(rows: &mut [u64], a: usize, b: usize)
     requires a_nonzero { a ≢ b }
     ensures { AddedTo a (up 64 (row_in rows.old b)) rows.old rows.new }
 {
-    let mut c = 1;
-    while c < ROW_WORDS {
+    for c in 1..ROW_WORDS {
         rows[a * ROW_WORDS + c] ^= rows[b * ROW_WORDS + c - 1];
-        c += 1;
     }
 }

@@ -6,7 +6,7 @@ use Prim.Native.Nat.{ℕ, ◌+◌, ◌-◌, ◌≤◌, ◌<◌}
 use native.Mathlib.Omega.{arith}
 use native.Mathlib.Numerals.{add-one}
 use native.Mathlib.Decide.{ℕ_discrete}
-use lib.ListN.{length, set, length-set}
+use lib.ListN.{set, length-set}
 use lib.Seq.{get_or-set_same, get_or-set_other}
 use Rattle.bits.specs.Sums.{at, sum}
 use Rattle.bits.proofs.SumLaws.{sum_add, sum_nought}
@@ -46,22 +46,6 @@ module _ (k marks : ℕ) (columns : List ℕ) (n b : ℕ) (L : Lists k marks col
 
       new : (j : ℕ) → j ≡ n + 1 → at (set columns (n + 1) r) j ≡ r
       new j e = ap (at (set columns (n + 1) r)) e ∙ get_or-set_same columns (n + 1) r 0 (omega (arith, L.size, L.few))
-
--- and the first
-pub lists_none : (k marks : ℕ) (columns : List ℕ) (b : ℕ) → length columns ≡ max_k + 1 → NextMark false marks 0 k b → Lists k marks (set columns 0 b) 0 b
-lists_none k marks columns b e N = record {
-  size = length-set columns 0 b ∙ e;
-  inside = λ j q. absurd (omega arith);
-  gone = λ j q. absurd (omega arith);
-  grow = λ j q. absurd (omega arith);
-  first = λ c z q. N.passed c z (omega (arith, new));
-  between = λ j q. absurd (omega arith);
-  last = new;
-  few = omega arith;
-}
-  where
-    new : at (set columns 0 b) 0 ≡ b
-    new = get_or-set_same columns 0 b 0 (omega (arith, e))
 
 -- the sum over the sources below a column
 module _ (k marks : ℕ) (columns : List ℕ) (n b : ℕ) (L : Lists k marks columns n b) (f : ℕ → ℕ) (none : (c : ℕ) → mark marks c ≡ true → f c ≡ 0) where

@@ -1,46 +1,45 @@
 // The search for a bare pair among the missing sources only: from one parity at hand to the next, and in each over the list of the missing.
 #![tactic(auto)]
 
-ghost use Rattle.std.specs.Prelude.{◌≡◌, false, ◌≤◌, ◌<◌};
+ghost use Rattle.std.specs.Prelude.{◌≡◌, false, ◌≤◌, ◌<◌, IfSome, MatchOption};
 ghost use Rattle.bits.specs.Sums.{at};
 ghost use Rattle.table.specs.Limits.{max_k};
 ghost use Rattle.table.specs.Desk.{mark};
-ghost use Rattle.table.specs.Table.{Within, desk_of};
-ghost use Rattle.walk.specs.Walk.{Bare, Fits};
-ghost use Rattle.search.specs.Search.{SomePair, Leads, LooksAt, AllMissing};
+ghost use Rattle.table.specs.Desks.{desk_of};
+ghost use Rattle.walk.specs.Walk.{Bare, Stuck, Fits};
+ghost use Rattle.search.specs.Search.{Leads, LooksAt, AllMissing};
 
-use table::{Shape, Table};
+use table::{Desk, Table};
 use walk::Pair;
 
 // Room for the missing sources, and k after them.
 pub const COLUMNS: usize = Table::SOURCES + 1;
 
 // The missing sources in order, then k; and how many they are.
-#[derive(Clone, Copy)]
+#[derive(Clone, Copy, Debug, PartialEq, Eq)]
 pub struct Missing {
     pub columns: [u8; COLUMNS],
     pub count: u8,
 }
 
-// The lowest next bit of a row so far: its place, and whose it is. At first the place is above all others; the source is k then, and where two share the place.
-// It is no `walk::Low`, which starts at no place: there k says that none was seen yet, and a source above k that two share the place.
+// The lowest next bit of a row so far: its place, and whose it is. At first the place is above all others, and nobody's; it is nobody's too where two share it.
 #[derive(Clone, Copy)]
 struct Leader {
     place: u64,
-    source: usize,
+    source: Option<usize>,
 }
 
-// Lists the missing sources.
-pub fn list_missing(s: Shape) -> Missing
-    requires { s.k ≤ max_k }
-    ensures { AllMissing s result.columns result.count }
+// Lists the missing ones of k sources.
+pub fn list_missing(k: usize, marks: u64) -> Missing
+    requires { k ≤ max_k }
+    ensures { AllMissing k marks result.columns result.count }
 {
     let mut columns = [0u8; COLUMNS];
     let mut count = 0;
-    let mut b = table::packets::next_missing(s.marks, 0, s.k);
+    let mut b = table::packets::next_missing(marks, 0, k);
     columns[0] = b as u8;
-    while b < s.k {
-        b = table::packets::next_missing(s.marks, b + 1, s.k);
+    while b < k {
+        b = table::packets::next_missing(marks, b + 1, k);
         count += 1;
         columns[count] = b as u8;
     }
@@ -51,117 +50,84 @@ pub fn list_missing(s: Shape) -> Missing
 }
 
 // The lowest next bit of parity a, with source b, a missing one, looked at too.
-fn lower(
-    s: Shape,
-    shifts: &[u8; Table::CELLS],
-    g: &[u64; Table::SOURCES],
-    a: usize,
-    b: usize,
-    x: Leader,
-) -> Leader
-    requires within { Within s shifts.now }
-    requires a_lt_m { a < s.m }
-    requires b_lt_k { b < s.k }
-    requires b_value { mark s.marks b ≡ false }
-    ensures { LooksAt (desk_of s shifts.now) (at g.now) a b x.place x.source result.place result.source }
+fn lower(desk: &Desk, g: &[u64; Table::SOURCES], a: usize, b: usize, x: Leader) -> Leader
+    requires a_lt_m { a < desk.now.m }
+    requires b_lt_k { b < desk.now.k }
+    requires b_value { mark desk.now.marks b ≡ false }
+    ensures { LooksAt (desk_of desk.now) (at g.now) a b x.place x.source result.place result.source }
 {
     let here = g[b];
-    if table::source_bits(s) as u64 <= here {
+    if desk.source_bits() as u64 <= here {
         return x;
     }
-    let place = table::shift_of(s, shifts, a, b) as u64 + here;
+    let place = desk.shift_of(a, b) as u64 + here;
     if place < x.place {
-        return Leader { place, source: b };
+        return Leader {
+            place,
+            source: Some(b),
+        };
     }
     if place == x.place {
-        return Leader { place, source: s.k };
+        return Leader {
+            place,
+            source: None,
+        };
     }
     x
 }
 
-// The source whose next bit stands alone lowest in the row of parity a, or k.
-fn row_source(
-    s: Shape,
-    shifts: &[u8; Table::CELLS],
-    g: &[u64; Table::SOURCES],
-    columns: &[u8; COLUMNS],
-    count: u8,
-    a: usize,
-) -> usize
-    requires within { Within s shifts.now }
-    requires all_missing { AllMissing s columns.now count }
-    requires a_lt_m { a < s.m }
-    ensures { result < s.k → Leads (desk_of s shifts.now) (at g.now) a result }
+// The source whose next bit stands alone lowest in the row of parity a, if there is one.
+fn row_source(desk: &Desk, g: &[u64; Table::SOURCES], missing: &Missing, a: usize) -> Option<usize>
+    requires all_missing { AllMissing desk.now.k desk.now.marks missing.now.columns missing.now.count }
+    requires a_lt_m { a < desk.now.m }
+    ensures { IfSome result (Leads (desk_of desk.now) (at g.now) a) }
 {
     let mut x = Leader {
         place: u64::MAX,
-        source: s.k,
+        source: None,
     };
-    let n = count as usize;
-    let mut j = 0;
-    while j < n {
-        x = lower(s, shifts, g, a, columns[j] as usize, x);
-        j += 1;
+    for column in &missing.columns[..missing.count as usize] {
+        x = lower(desk, g, a, *column as usize, x);
     }
     x.source
 }
 
-// A bare pair in row `from` or after it, from one parity at hand to the next; the parity is m where there is none.
-fn pair_from(
-    s: Shape,
-    shifts: &[u8; Table::CELLS],
-    g: &[u64; Table::SOURCES],
-    columns: &[u8; COLUMNS],
-    count: u8,
-    from: usize,
-) -> Pair
-    requires within { Within s shifts.now }
-    requires all_missing { AllMissing s columns.now count }
-    requires from_le_m { from ≤ s.m }
-    ensures { result.parity < s.m → Bare (desk_of s shifts.now) (at g.now) result.parity result.source }
+// A bare pair in row `from` or after it, if there is one, from one parity at hand to the next.
+fn pair_from(desk: &Desk, g: &[u64; Table::SOURCES], missing: &Missing, from: usize) -> Option<Pair>
+    requires all_missing { AllMissing desk.now.k desk.now.marks missing.now.columns missing.now.count }
+    requires from_le_m { from ≤ desk.now.m }
+    ensures { IfSome result (λ p. Bare (desk_of desk.now) (at g.now) p.parity p.source) }
 {
-    let k = s.k;
-    let n = k + s.m;
-    let mut i = table::packets::next_present(s.marks, k + from, n);
+    let k = desk.k;
+    let n = k + desk.m;
+    let mut i = table::packets::next_present(desk.marks, k + from, n);
     while i < n {
-        let a = i - k;
-        let b = row_source(s, shifts, g, columns, count, a);
-        if b < k {
-            return Pair {
-                parity: a,
-                source: b,
-            };
+        let parity = i - k;
+        if let Some(source) = row_source(desk, g, missing, parity) {
+            return Some(Pair { parity, source });
         }
-        i = table::packets::next_present(s.marks, i + 1, n);
+        i = table::packets::next_present(desk.marks, i + 1, n);
     }
-    Pair {
-        parity: s.m,
-        source: 0,
-    }
+    None
 }
 
-// A bare pair, looked for from row `from` on, then from the first row; where both fail the walk's own search decides, and the parity is m where none is bare.
+// A bare pair, looked for from row `from` on, then from the first row; where both fail the walk's own search decides.
 pub fn some_pair(
-    s: Shape,
-    shifts: &[u8; Table::CELLS],
+    desk: &Desk,
     g: &[u64; Table::SOURCES],
-    columns: &[u8; COLUMNS],
-    count: u8,
+    missing: &Missing,
     from: usize,
-) -> Pair
-    requires within { Within s shifts.now }
-    requires fits { Fits (desk_of s shifts.now) (at g.now) }
-    requires all_missing { AllMissing s columns.now count }
-    requires from_le_m { from ≤ s.m }
-    ensures { SomePair (desk_of s shifts.now) (at g.now) result.parity result.source }
+) -> Option<Pair>
+    requires fits { Fits (desk_of desk.now) (at g.now) }
+    requires all_missing { AllMissing desk.now.k desk.now.marks missing.now.columns missing.now.count }
+    requires from_le_m { from ≤ desk.now.m }
+    ensures { MatchOption result (Stuck (desk_of desk.now) (at g.now)) (λ p. Bare (desk_of desk.now) (at g.now) p.parity p.source) }
 {
-    let p = pair_from(s, shifts, g, columns, count, from);
-    if p.parity < s.m {
-        return p;
+    if let Some(p) = pair_from(desk, g, missing, from) {
+        return Some(p);
     }
-    let q = pair_from(s, shifts, g, columns, count, 0);
-    if q.parity < s.m {
-        return q;
+    if let Some(p) = pair_from(desk, g, missing, 0) {
+        return Some(p);
     }
-    walk::next_pair(s, shifts, g)
+    walk::next_pair(desk, g)
 }

@@ -7,6 +7,7 @@ use Prim.Native.Nat.{ℕ, suc, ◌+◌, ◌≤◌}
 use native.Mathlib.Omega.{arith}
 use lib.ListN.{length, take}
 use lib.Seq.{take_at}
+use Rattle.std.specs.Prelude.{Option, Some, None, IfSome}
 use Rattle.bits.specs.Sums.{count}
 use Rattle.bits.proofs.SumLaws.{sum_same}
 use Rattle.table.specs.Limits.{max_length, noughts}
@@ -14,7 +15,9 @@ use Rattle.table.specs.Desk.{mark}
 use Rattle.table.specs.Checks.{Checked, Outside, MarkAbove, size_checks, length_checks, table_checks, shape_checks, marks_checks, marked_checks}
 use Rattle.table.proofs.CheckLaws.{numbered_by, sized, checked_once, goes, passed, neither}
 use Rattle.choices.specs.Choices.{Before, Choice, First, Next}
-use Rattle.choices.specs.Promise.{Holding, Begins, OrNoughts}
+use Rattle.choices.specs.Promise.{Holding, Begins, Follows, OrNoughts}
+use Rattle.choices.specs.Given.{held}
+use Rattle.choices.specs.declared.Choice as laid
 use Rattle.choices.proofs.Successors.{one_held, held_not_noughts, last_where_none_follows, begins_run, one_least}
 use Rattle.line.specs.Promise.{Line, line_checks, value_checks, sheet_checks, LineRead}
 use Rattle.line.proofs.Lines.{one_line}
@@ -25,6 +28,11 @@ use Rattle.sheet.specs.Sheet.{Row, Lines, last, more, Output, refused, printed, 
 use Rattle.sheet.proofs.Marking.{among_high, count-among}
 use Rattle.sheet.proofs.Rows.{one_walk_of}
 use Rattle.family.proofs.FamilyTables.{family_low}
+
+-- none was given, so none follows
+none_given : (k m : ℕ) (from : List ℕ) → OrNoughts (Follows k m from) noughts → (other : List ℕ) → Follows k m from other → ⊥
+none_given k m from (inl f) other g = held_not_noughts k m noughts (record { sized = f.was.sized; choice = f.next.choice; held_is = f.held_is }) refl
+none_given k m from (inr f) other g = f.0 other g
 
 -- the marks of a choice pass
 marks_pass : (k m : ℕ) (ids : List ℕ) (marks : ℕ) → Choice k (k + m) ids → Marked ids marks → Checked (marks_checks k m marks) 0
@@ -64,21 +72,15 @@ module _ (k m l : ℕ) (size : Checked (size_checks k m) 0) (len : Checked (leng
       no (inl n) = n ids h
       no (inr n) = n.5 (walk_not_refused n.0 n.1 n.2 n.3.choice n.4)
 
-  -- nothing is printed once noughts are held
-  pieces_end : {held text : List ℕ} → held ≡ noughts → Pieces k m l held text → text ≡ []
-  pieces_end z (none _ e) = e
-  pieces_end z (piece count before after next rest n b p f ps e) = absurd (n z)
-
   -- the pieces from a choice on, joined, are its line and those of all after it
-  pub pieces_are_lines : {held text : List ℕ} → Pieces k m l held text → {ids : List ℕ} → Holding k m held ids → Lines k m l ids text
-  pieces_are_lines {held} (none z e) h = absurd (held_not_noughts k m held h z)
-  pieces_are_lines {held} (piece count before after next rest n b p (inl f) ps e) {ids} h =
-      let same : f.ids ≡ ids = one_held k m held f.was h in
-      let then : Holding k m next f.then = record { sized = size; choice = f.next.choice; held_is = f.held_is } in
+  pub pieces_are_lines : {c : laid.Choice} {text : List ℕ} → Pieces k m l (Some c) text → {ids : List ℕ} → Holding k m c.ids ids → Lines k m l ids text
+  pieces_are_lines (piece c None count before after rest b p f s (none z) e) h =
+      let alone = e ∙ ap (λ t. take count after ++ t) z ∙ append-nil (take count after) in
+      last (subst (Row k m l _) (sym alone) (row_piece h b p)) (last_where_none_follows k m c.ids h (none_given k m c.ids f))
+  pieces_are_lines (piece c (Some d) count before after rest b p g f ps e) {ids} h =
+      let same : f.ids ≡ ids = one_held k m c.ids f.was h in
+      let then : Holding k m d.ids f.then = record { sized = size; choice = f.next.choice; held_is = f.held_is } in
       more (take count after) f.then rest (row_piece h b p) (subst (λ u. Next k (k + m) u f.then) same f.next) (pieces_are_lines ps then) e
-  pieces_are_lines {held} (piece count before after next rest n b p (inr f) ps e) {ids} h =
-      let alone = e ∙ ap (λ t. take count after ++ t) (pieces_end f.1 ps) ∙ append-nil (take count after) in
-      last (subst (Row k m l ids) (sym alone) (row_piece h b p)) (last_where_none_follows k m held h f.0)
 
 -- the length and the size of a line that is not refused
 values_pass : (input : List ℕ) {k m l : ℕ} → Line input k m l → Checked (sheet_checks input) 0 → Checked (size_checks k m) 0 × Checked (length_checks l) 0
@@ -104,19 +106,21 @@ module _ (input : List ℕ) {number k m l : ℕ} (read : LineRead (sheet_checks 
   refusal_is_output n b p = refused number read.numbered n (piece_text b p)
 
   -- else the header and the pieces from the first choice on, joined, are the whole output
-  pub pieces_are_output : {before after held text : List ℕ} {count : ℕ} → number ≡ 0 → room ≤ length before → Printed header before count after
-      → OrNoughts (Begins k m) held → Pieces k m l held text → Output input (take count after ++ text)
-  pieces_are_output {after = after} {held = held} {text = text} {count = count} z b p f ps =
+  pub pieces_are_output : {before after text : List ℕ} {count : ℕ} (start : Option laid.Choice) → number ≡ 0 → room ≤ length before → Printed header before count after
+      → OrNoughts (Begins k m) (held start) → IfSome start (λ c. Begins k m c.ids) → Pieces k m l start text → Output input (take count after ++ text)
+  pieces_are_output {after = after} {text = text} {count = count} start z b p f g ps =
       let c = subst (Checked (sheet_checks input)) z read.numbered in
       let x = read.done z in
       let v = values_pass input x c in
-      go v.0 v.1 c x f
+      go v.0 v.1 c x start f g ps
     where
-      go : Checked (size_checks k m) 0 → Checked (length_checks l) 0 → Checked (sheet_checks input) 0 → Line input k m l → OrNoughts (Begins k m) held → Output input (take count after ++ text)
-      go s len c x (inl g) =
-          let first-held : Holding k m held g.ids = record { sized = s; choice = g.first.choice; held_is = g.held_is } in
+      go : Checked (size_checks k m) 0 → Checked (length_checks l) 0 → Checked (sheet_checks input) 0 → Line input k m l → (start : Option laid.Choice) → OrNoughts (Begins k m) (held start)
+          → IfSome start (λ c. Begins k m c.ids) → Pieces k m l start text → Output input (take count after ++ text)
+      go s len c x (Some d) f g ps =
+          let first-held : Holding k m d.ids g.ids = record { sized = s; choice = g.first.choice; held_is = g.held_is } in
           printed k m l g.ids text c x g.first (pieces_are_lines k m l s len ps first-held) (ap (λ t. t ++ text) (piece_text b p))
-      go s len c x (inr g) = absurd (g.0 _ (begins_run k m s))
+      go s len c x None (inl g) n ps = absurd (held_not_noughts k m noughts (record { sized = s; choice = g.first.choice; held_is = g.held_is }) refl)
+      go s len c x None (inr g) n ps = absurd (g.0 _ (begins_run k m s))
 
 -- every choice from ids on has its line
 pub every_choice_has_its_line : {k m l : ℕ} {ids text : List ℕ} → Lines k m l ids text → (others : List ℕ) → Choice k (k + m) others → (others ≡ ids) ⊎ Before ids others

@@ -1,9 +1,10 @@
 -- All that the class sheet prints, and the pieces that the calls give.
-use Rattle.std.specs.Prelude.{◌≡◌, List, [], ◌++◌, ℕ, ◌+◌, ◌≤◌, length, take}
-use Rattle.table.specs.Limits.{noughts}
+use Rattle.std.specs.Prelude.{◌≡◌, Option, Some, None, IfSome, List, [], ◌++◌, ℕ, ◌+◌, ◌≤◌, length, take}
 use Rattle.table.specs.Checks.{Checked}
 use Rattle.choices.specs.Choices.{First, Next, Last}
 use Rattle.choices.specs.Promise.{Follows, OrNoughts}
+use Rattle.choices.specs.Given.{held}
+use Rattle.choices.specs.declared.Choice.{Choice}
 use Rattle.line.specs.Promise.{Line, sheet_checks}
 use Rattle.sheet.specs.Printing.{header, choice_text, refusal, room}
 use Rattle.sheet.specs.Steps.{WalkOf}
@@ -24,8 +25,8 @@ pub data Output (input text : List ℕ) : Type 0 where
   printed : (k m l : ℕ) (ids lines : List ℕ) → Checked (sheet_checks input) 0 → Line input k m l → First k (k + m) ids → Lines k m l ids lines → text ≡ header ++ lines
       → Output input text
 
--- the pieces that row gives, joined, with next called after each until noughts are held
-pub data Pieces (k m l : ℕ) : List ℕ → List ℕ → Type 0 where
-  none : {held text : List ℕ} → held ≡ noughts → text ≡ [] → Pieces k m l held text
-  piece : {held text : List ℕ} (count : ℕ) (before after next rest : List ℕ) → (held ≡ noughts → ⊥) → room ≤ length before
-      → RowPrinted k m l held before count after → OrNoughts (Follows k m held) next → Pieces k m l next rest → text ≡ take count after ++ rest → Pieces k m l held text
+-- the pieces that row gives, joined, with next called after each until it gives none
+pub data Pieces (k m l : ℕ) : Option Choice → List ℕ → Type 0 where
+  none : {text : List ℕ} → text ≡ [] → Pieces k m l None text
+  piece : {text : List ℕ} (c : Choice) (next : Option Choice) (count : ℕ) (before after rest : List ℕ) → room ≤ length before → RowPrinted k m l c.ids before count after
+      → OrNoughts (Follows k m c.ids) (held next) → IfSome next (λ d. Follows k m c.ids d.ids) → Pieces k m l next rest → text ≡ take count after ++ rest → Pieces k m l (Some c) text

@@ -1,52 +1,52 @@
-// The pieces that the class sheet prints, each at the front of a lent buffer.
+// The pieces that the class sheet prints, each at the front of a lent buffer; and how many bytes each has, where it was printed.
+ghost use Rattle.table.specs.Refusals.{number_of};
 ghost use Rattle.sheet.specs.Printing.{header, refusal};
 ghost use Rattle.sheet.specs.Promise.{Printed, RowPrinted};
+ghost use Rattle.sheet.specs.Given.{count_of};
 
 use crate::{steps, writing};
 use choices::Choice;
+use line::Line;
+use table::Refusal;
 
-// As many bytes as each piece has room in.
+// As many bytes as each piece has room in. With less room none is printed.
 pub const ROOM: usize = 64;
 
 // The first line of the sheet.
-pub fn header(out: &mut [u8]) -> usize
-    ensures { Printed header out.old result out.new }
+pub fn header(out: &mut [u8]) -> Option<usize>
+    ensures { Printed header out.old (count_of result) out.new }
 {
     if out.len() < ROOM {
-        return 0;
+        return None;
     }
-    text::put(out, 0, b"ids steps\n")
+    Some(text::put(out, 0, b"ids steps\n"))
 }
 
 // The only line where the input is refused.
-pub fn refusal(number: u64, out: &mut [u8]) -> usize
-    ensures { Printed (refusal number) out.old result out.new }
+pub fn refusal(why: Refusal, out: &mut [u8]) -> Option<usize>
+    ensures { Printed (refusal (number_of why)) out.old (count_of result) out.new }
 {
     if out.len() < ROOM {
-        return 0;
+        return None;
     }
     let word = text::put(out, 0, b"refused ");
-    let end = text::put_numeral(out, word, number);
-    text::put_byte(out, end, b'\n')
+    let end = text::put_numeral(out, word, why.number());
+    Some(text::put_byte(out, end, b'\n'))
 }
 
-// The line of the choice c: its numbers, and the count of steps with the house table. Where c is no choice, nothing.
-pub fn row(k: u64, m: u64, l: u64, c: Choice, out: &mut [u8]) -> usize
-    ensures { RowPrinted k m l c.ids out.old result out.new }
+// The line of the choice c: its numbers, and the count of steps with the house table. Where c is no choice of the line's size, nothing.
+pub fn row(line: Line, c: Choice, out: &mut [u8]) -> Option<usize>
+    ensures { RowPrinted line.k line.m line.l c.ids out.old (count_of result) out.new }
 {
-    if !choices::is_choice(k, m, c) {
-        return 0;
+    if !choices::is_choice(line.k, line.m, c) {
+        return None;
     }
-    let ids = c.ids;
-    let steps = steps::walked(k, m, l, ids);
-    if steps.number != 0 {
-        return 0;
-    }
+    let steps = steps::count_steps(line, c.ids).ok()?;
     if out.len() < ROOM {
-        return 0;
+        return None;
     }
-    let last = writing::put_ids(out, ids, k as usize);
+    let last = writing::put_ids(out, c.ids, line.k as usize);
     let count = text::put_byte(out, last, b' ');
-    let end = text::put_numeral(out, count, steps.count);
-    text::put_byte(out, end, b'\n')
+    let end = text::put_numeral(out, count, steps);
+    Some(text::put_byte(out, end, b'\n'))
 }

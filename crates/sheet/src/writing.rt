@@ -13,11 +13,9 @@ fn put_others(out: &mut [u8], start: usize, ids: [u64; Table::SOURCES], k: usize
     ensures { (result ≡ start + length (after_commas (drop 1 (take k ids)))) × (result ≤ max_k * (id_digits + 1)) × PutAt out.old start (after_commas (drop 1 (take k ids))) out.new }
 {
     let mut end = start;
-    let mut i = 1;
-    while i < k {
+    for i in 1..k {
         let number = text::put_byte(out, end, b',');
         end = text::put_numeral(out, number, ids[i]);
-        i += 1;
     }
     end
 }

@@ -27,9 +27,6 @@ ExpandedTo v n q r r' = (y : Polynomials) → Fit n (column_rise v n) y → Valu
 
 -- row q was added to the rows after it and before row i, and these were divided
 module _ (v : ℕ → ℕ) (q n : ℕ) (r : Polynomials) where
-  pub differenced_none : Differenced v q (q + 1) n r r
-  differenced_none = record { after = λ i lo hi. absurd (omega arith); still = λ i p l g. refl }
-
   pub differenced_more : (i : ℕ) (r₁ r₂ r₃ : Polynomials) → q < i → i < n → Differenced v q i n r r₁ → Turned (Gained (up 0 (r₁ q))) i n r₁ r₂ → Turned (Freed (v q) (v i)) i n r₂ r₃
       → Differenced v q (i + 1) n r r₃
   differenced_more i r₁ r₂ r₃ lq li R A D = record {
@@ -43,9 +40,6 @@ module _ (v : ℕ → ℕ) (q n : ℕ) (r : Polynomials) where
 
 -- the rows from row q on and before row b were added to
 module _ (e q n : ℕ) (r : Polynomials) where
-  pub expanded_none : Expanded e q q n r r
-  expanded_none = record { after = λ b p lo hi lp. absurd (omega arith); still = λ b p l g. refl }
-
   pub expanded_more : (b : ℕ) (r₁ r₂ : Polynomials) → q ≤ b → b + 1 < n → Expanded e q b n r r₁ → Turned (Gained (up e (r₁ (b + 1)))) b n r₁ r₂ → Expanded e q (b + 1) n r r₂
   expanded_more b r₁ r₂ lq lb R A = record {
     after = λ c p lo hi lp. elim (ℕ_discrete c b) [

@@ -27,9 +27,6 @@ RestoredTo v n q r r' = (y : Polynomials) → Fit n (row_rise v n) y → Reduced
 
 -- the rows after row i were added to, from the last one up
 module _ (e n : ℕ) (r : Polynomials) where
-  pub eliminated_none : (i : ℕ) → n ≤ i + 1 → Eliminated e i n r r
-  eliminated_none i l = record { after = λ j p a b lp. absurd (omega arith); still = λ j p a b. refl }
-
   pub eliminated_more : (i : ℕ) (r₁ r₂ : Polynomials) → 0 < i → i < n → Eliminated e i n r r₁ → Turned (Gained (up e (r₁ (i - 1)))) i n r₁ r₂ → Eliminated e (i - 1) n r r₂
   eliminated_more i r₁ r₂ l li E T = record {
     after = λ j p a b lp. elim (ℕ_discrete j i) [

@@ -15,10 +15,8 @@ fn eliminate(rows: &mut [u64], place: &[u8], e: usize, q: usize, n: usize)
     requires q_lt_n { q < n }
     ensures { Changed (Eliminated e q n) place.now n rows.old rows.new }
 {
-    let mut i = n - 1;
-    while q < i {
-        rows::add_up(rows, place[i] as usize, place[i - 1] as usize, e);
-        i -= 1;
+    for i in (q + 1..n).rev() {
+        rows::add_up(rows, usize::from(place[i]), usize::from(place[i - 1]), e);
     }
 }
 
@@ -28,10 +26,8 @@ fn eliminate_all(rows: &mut [u64], place: &[u8], rises: &[u8], n: usize)
     requires rising { Rising rises.now n }
     ensures { Changed (EliminatedTo (at rises.now) n (n - 1)) place.now n rows.old rows.new }
 {
-    let mut q = 0;
-    while q < n - 1 {
-        eliminate(rows, place, rises[q] as usize, q, n);
-        q += 1;
+    for q in 0..n - 1 {
+        eliminate(rows, place, usize::from(rises[q]), q, n);
     }
 }
 
@@ -42,14 +38,12 @@ fn restore(rows: &mut [u64], place: &[u8], rises: &[u8], q: usize, n: usize)
     requires q_lt_n { q < n }
     ensures { Changed (Restored (at rises.now) q n n) place.now n rows.old rows.new }
 {
-    let first = place[q] as usize;
-    let e = rises[q] as usize;
-    let mut b = q + 1;
-    while b < n {
-        let row = place[b] as usize;
-        rows::divide::divide(rows, row, e, rises[b] as usize - e);
+    let first = usize::from(place[q]);
+    let e = usize::from(rises[q]);
+    for b in q + 1..n {
+        let row = usize::from(place[b]);
+        rows::divide::divide(rows, row, e, usize::from(rises[b]) - e);
         rows::add_up(rows, first, row, 0);
-        b += 1;
     }
 }
 
@@ -60,9 +54,7 @@ pub fn solve_rows(rows: &mut [u64], place: &[u8], rises: &[u8], n: usize)
     ensures { Changed (SolvedRows (at rises.now) n) place.now n rows.old rows.new }
 {
     eliminate_all(rows, place, rises, n);
-    let mut q = n - 1;
-    while 0 < q {
-        q -= 1;
+    for q in (0..n - 1).rev() {
         restore(rows, place, rises, q, n);
     }
 }
@@ -74,14 +66,12 @@ fn difference(rows: &mut [u64], place: &[u8], rises: &[u8], q: usize, n: usize)
     requires q_lt_n { q < n }
     ensures { Changed (Differenced (at rises.now) q n n) place.now n rows.old rows.new }
 {
-    let first = place[q] as usize;
-    let e = rises[q] as usize;
-    let mut i = q + 1;
-    while i < n {
-        let row = place[i] as usize;
+    let first = usize::from(place[q]);
+    let e = usize::from(rises[q]);
+    for i in q + 1..n {
+        let row = usize::from(place[i]);
         rows::add_up(rows, row, first, 0);
-        rows::divide::divide(rows, row, e, rises[i] as usize - e);
-        i += 1;
+        rows::divide::divide(rows, row, e, usize::from(rises[i]) - e);
     }
 }
 
@@ -91,10 +81,8 @@ fn difference_all(rows: &mut [u64], place: &[u8], rises: &[u8], n: usize)
     requires rising { Rising rises.now n }
     ensures { Changed (DifferencedTo (at rises.now) n (n - 1)) place.now n rows.old rows.new }
 {
-    let mut q = 0;
-    while q < n - 1 {
+    for q in 0..n - 1 {
         difference(rows, place, rises, q, n);
-        q += 1;
     }
 }
 
@@ -105,10 +93,8 @@ fn expand(rows: &mut [u64], place: &[u8], e: usize, q: usize, n: usize)
     requires q_lt_n { q < n }
     ensures { Changed (Expanded e q (n - 1) n) place.now n rows.old rows.new }
 {
-    let mut b = q;
-    while b < n - 1 {
-        rows::add_up(rows, place[b] as usize, place[b + 1] as usize, e);
-        b += 1;
+    for b in q..n - 1 {
+        rows::add_up(rows, usize::from(place[b]), usize::from(place[b + 1]), e);
     }
 }
 
@@ -119,9 +105,7 @@ pub fn solve_columns(rows: &mut [u64], place: &[u8], rises: &[u8], n: usize)
     ensures { Changed (SolvedColumns (at rises.now) n) place.now n rows.old rows.new }
 {
     difference_all(rows, place, rises, n);
-    let mut q = n - 1;
-    while 0 < q {
-        q -= 1;
-        expand(rows, place, rises[q] as usize, q, n);
+    for q in (0..n - 1).rev() {
+        expand(rows, place, usize::from(rises[q]), q, n);
     }
 }

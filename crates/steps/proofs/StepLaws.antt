@@ -1,16 +1,25 @@
 -- Laws of lists of steps: how far they are led, one first bad step, and that the complete lists are the finished orders. Assumes nothing.
 use mathlib.Core.Path.{◌≡◌, refl, sym, ap, ap₂, ◌∙◌, subst, fun_ext}
 use mathlib.Core.Logic.{inl, inr}
+use mathlib.Core.Bool.{Bool, true≢false}
 use mathlib.Core.List.{List, [], ◌∷◌, ◌++◌, map, map-append, head-eq_of_cons-eq, tail-eq_of_cons-eq}
 use Prim.Native.Nat.{ℕ, zero, suc, ◌+◌, ◌-◌, ◌≤◌, ◌<◌}
 use native.Mathlib.Omega.{arith}
 use native.Mathlib.Decide.{dec_lt}
 use native.Mathlib.Numerals.{add-one}
+use lib.Dec.{eqb}
+use borrow.Author.Tests.{eqb-true, eqb-false}
+use Rattle.std.specs.Prelude.{Option, Some, None, MatchOption, Result, Ok, Err}
+use Rattle.std.specs.Option.{option_eq}
+use Rattle.std.specs.Result.{IsErrAnd}
 use lib.ListN.{length, take, length-append, length-map}
 use lib.Seq.{length-take-le, take-length, take-suc, take-take, get_or-take}
+use Rattle.bits.specs.Bits.{Tells}
 use Rattle.bits.specs.Sums.{at, one_at}
 use Rattle.table.specs.Limits.{max_k, max_bits, noughts}
 use Rattle.table.specs.Desk.{Desk}
+use Rattle.table.specs.Refusals.{number_of}
+use Rattle.table.specs.declared.refusals.Refusal.{Refusal}
 use Rattle.walk.specs.Walk.{Order, bump, Bare, Run, done, step, Fits, Whole}
 use Rattle.walk.specs.Ends.{Reaches, Finishes}
 use Rattle.walk.specs.Compute.{source_of}
@@ -19,6 +28,8 @@ use Rattle.walk.proofs.Runs.{run_once, snoc}
 use Rattle.walk.proofs.Reached.{at-noughts, reaches_fits}
 use Rattle.steps.specs.Steps.{parity_numbers, source_numbers, Lists, BareStep, Led, FirstBad, EndsEarly, Complete}
 use Rattle.steps.specs.Promise.{PlaceTold, Followed}
+use Rattle.steps.specs.Parts.{steps_number, steps_place}
+use Rattle.steps.specs.declared.BadSteps.{BadSteps}
 
 -- ---- the numbers of an order
 
@@ -59,6 +70,18 @@ module _ (D : Desk) (g : ℕ → ℕ) (parity source : ℕ) where
   bare_found B =
       let e : parity - 1 ≡ B.a = omega (arith, B.parity_is) in
       rw e (omega (arith, bare_source D g B.a B.b B.bare, B.source_is))
+
+  -- and whether what it finds is the source of the second
+  pub found_tells : (1 ≤ parity) × (parity ≤ m) → (1 ≤ source) × (source ≤ k) → (r : Option ℕ)
+      → MatchOption r (k ≤ source_of D g (parity - 1)) (λ b. (b < k) × (b ≡ source_of D g (parity - 1)))
+      → (v : Bool)
+      → v ≡ option_eq eqb r (Some (source - 1))
+      → Tells v (BareStep D g parity source)
+  found_tells p s None h v e = record { so = λ t. absurd (true≢false (sym t ∙ e)); not_so = λ _ B. omega (arith, h, s, bare_found B) }
+  found_tells p s (Some b) h v e = record {
+    so = λ t. found_bare p s (sym h.1 ∙ eqb-true b (source - 1) (sym e ∙ t));
+    not_so = λ f B. eqb-false b (source - 1) (sym e ∙ f) (h.1 ∙ bare_found B);
+  }
 
   -- so its source is one of those that have progress, and has a bit left
   pub bare_room : k ≤ max_k → bits ≤ max_bits → BareStep D g parity source → (source - 1 < max_k) × (g (source - 1) ≤ max_bits)
@@ -170,6 +193,11 @@ module _ (D : Desk) where
     whole_not_early L w E = E.not_whole (subst (Whole D) (led_once L E.led) w)
 
 -- ---- the check itself: where it stands after some steps, and its answers
+
+-- refused by another check, it tells that check's number and no place
+pub refused_nowhere : {A : Type 0} (r : Result A BadSteps) (e : Refusal) → IsErrAnd r (λ b. (b.refusal ≡ e) × (b.place ≡ 0)) → (steps_number r ≡ number_of e) × (steps_place r ≡ 0)
+refused_nowhere (Ok a) e h = absurd h
+refused_nowhere (Err b) e h = (ap number_of h.0, h.1)
 
 module _ (D : Desk) (parities sources : List ℕ) where
   -- the first n steps lead to the progress in a list

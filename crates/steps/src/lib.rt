@@ -4,80 +4,84 @@
 ghost use Rattle.std.specs.Prelude.{◌≡◌, ◌≤◌, length};
 ghost use Rattle.bits.specs.Sums.{at};
 ghost use Rattle.bits.specs.Bits.{Tells};
-ghost use Rattle.table.specs.Table.{Within, desk_of};
+ghost use Rattle.table.specs.Desks.{desk_of};
+ghost use Rattle.table.specs.Checks.{Checked};
+ghost use Rattle.table.specs.Refusals.{told};
 ghost use Rattle.walk.specs.Walk.{Fits};
 ghost use Rattle.steps.specs.Steps.{BareStep};
-ghost use Rattle.steps.specs.Promise.{Followed, StepsChecked};
+ghost use Rattle.steps.specs.Promise.{unequal_checks, Followed, StepsChecked};
+ghost use Rattle.steps.specs.Parts.{steps_number, steps_place};
 
-use table::{Number, Shape, Table};
+use table::{Desk, Refusal, Table};
 
-// What check steps gives: its number, and the place of a refusal: the first bad step, from 1, or the length of a list that ends early.
-#[derive(Clone, Copy)]
-pub struct StepsAnswer {
-    pub number: u64,
+// Why a list of steps is refused, and where: the first bad step, from 1, or the length of a list that ends early; else 0.
+#[derive(Clone, Copy, Debug, PartialEq, Eq)]
+pub struct BadSteps {
+    pub refusal: Refusal,
     pub place: u64,
+}
+
+// What is refused before a step is looked at has no place.
+impl From<Refusal> for BadSteps {
+    ghost from_gives = { λ refusal bad. (bad.refusal ≡ refusal) × (bad.place ≡ 0) };
+
+    fn from(refusal: Refusal) -> BadSteps {
+        BadSteps { refusal, place: 0 }
+    }
 }
 
 // Whether an entry is a number from 1 to n.
 fn names(n: usize, entry: u8) -> bool
     ensures { Tells result ((1 ≤ entry) × (entry ≤ n)) }
 {
-    if entry < 1 {
-        return false;
-    }
-    entry as usize <= n
+    1 <= entry && entry as usize <= n
 }
 
 // Whether two entries are the numbers of a parity and a source that are bare at progress g.
-fn is_bare(
-    s: Shape,
-    shifts: &[u8; Table::CELLS],
-    g: &[u64; Table::SOURCES],
-    parity: u8,
-    source: u8,
-) -> bool
-    requires within { Within s shifts.now }
-    requires fits { Fits (desk_of s shifts.now) (at g.now) }
-    ensures { Tells result (BareStep (desk_of s shifts.now) (at g.now) parity source) }
+fn is_bare(desk: &Desk, g: &[u64; Table::SOURCES], parity: u8, source: u8) -> bool
+    requires fits { Fits (desk_of desk.now) (at g.now) }
+    ensures { Tells result (BareStep (desk_of desk.now) (at g.now) parity source) }
 {
-    if names(s.m, parity) {
-        if names(s.k, source) {
-            return walk::source_of(s, shifts, g, parity as usize - 1) == source as usize - 1;
-        }
+    names(desk.m, parity)
+        && names(desk.k, source)
+        && walk::source_of(desk, g, parity as usize - 1) == Some(source as usize - 1)
+}
+
+// 22.
+fn check_as_long(parities: &[u8], sources: &[u8]) -> Result<(), Refusal>
+    ensures { Checked (unequal_checks parities.now sources.now) (told result) }
+{
+    if parities.len() != sources.len() {
+        return Err(Refusal::StepsUnequal);
     }
-    false
+    Ok(())
 }
 
 // 23 and 24 of lists as long as each other: each step is tried at the progress that those before it reach.
-fn follow(s: Shape, shifts: &[u8; Table::CELLS], parities: &[u8], sources: &[u8]) -> StepsAnswer
-    requires within { Within s shifts.now }
+fn follow(desk: &Desk, parities: &[u8], sources: &[u8]) -> Result<(), BadSteps>
     requires parities_len { length parities.now ≡ length sources.now }
-    ensures { Followed (desk_of s shifts.now) parities.now sources.now result.number result.place }
+    ensures { Followed (desk_of desk.now) parities.now sources.now (steps_number result) (steps_place result) }
 {
     let mut g = [0u64; Table::SOURCES];
-    let mut i = 0;
-    while i < parities.len() {
+    let n = parities.len();
+    for i in 0..n {
         let source = sources[i];
-        if is_bare(s, shifts, &g, parities[i], source) {
-            let after = walk::raised(g, source as usize - 1);
-            g = after;
-            i += 1;
-        } else {
-            return StepsAnswer {
-                number: Number::STEP_NOT_BARE,
+        if !is_bare(desk, &g, parities[i], source) {
+            return Err(BadSteps {
+                refusal: Refusal::StepNotBare,
                 place: i as u64 + 1,
-            };
+            });
         }
+        g = walk::raised(g, source as usize - 1);
     }
-    if walk::is_whole(s, &g) {
-        return StepsAnswer {
-            number: 0,
-            place: 0,
-        };
-    }
-    StepsAnswer {
-        number: Number::STEPS_EARLY,
-        place: i as u64,
+    let early = BadSteps {
+        refusal: Refusal::StepsEarly,
+        place: n as u64,
+    };
+    if walk::is_whole(desk, &g) {
+        Ok(())
+    } else {
+        Err(early)
     }
 }
 
@@ -91,24 +95,10 @@ pub fn check_steps(
     marks: u64,
     parities: &[u8],
     sources: &[u8],
-) -> StepsAnswer
-    ensures { StepsChecked k m l table.now marks parities.now sources.now result.number result.place }
+) -> Result<(), BadSteps>
+    ensures { StepsChecked k m l table.now marks parities.now sources.now (steps_number result) (steps_place result) }
 {
-    let o = checks::open_marked(k, m, l, table, marks);
-    if o.number != 0 {
-        return StepsAnswer {
-            number: o.number,
-            place: 0,
-        };
-    }
-    if parities.len() != sources.len() {
-        return StepsAnswer {
-            number: Number::STEPS_UNEQUAL,
-            place: 0,
-        };
-    }
-    let s = o.shape;
-    let t = o.table;
-    let shifts = t.shifts;
-    follow(s, &shifts, parities, sources)
+    let desk = checks::open_marked(k, m, l, table, marks)?;
+    check_as_long(parities, sources)?;
+    follow(&desk, parities, sources)
 }

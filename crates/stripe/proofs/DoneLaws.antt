@@ -30,19 +30,6 @@ module _ (D : Desk) (stripes : ℕ) (packets : List ℕ) where
     pub kept : drop (t * w) after ≡ drop (t * w) before
     pub finish : 1 ≤ t → Finishes D count
 
-  pub done_none : (before : List ℕ) (count : ℕ) → Done before 0 count before
-  done_none before count = record {
-    size = refl;
-    good = λ u l. absurd (omega arith);
-    sources = λ u l. absurd (omega arith);
-    kept = refl;
-    finish = λ l. absurd (omega arith);
-  }
-
-  -- whatever count finishes will do
-  pub done_count : (before : List ℕ) (t count count' : ℕ) (after : List ℕ) → Finishes D count' → Done before t count after → Done before t count' after
-  done_count before t count count' after F S = record { size = S.size; good = S.good; sources = S.sources; kept = S.kept; finish = λ _. F }
-
   -- what is written of t stripes
   done_written : (before : List ℕ) (t count : ℕ) (after : List ℕ) → Done before t count after → GoodWritten D stripes packets t before after
   done_written before t count after S = record { size = S.size; sources = S.sources; kept = S.kept }

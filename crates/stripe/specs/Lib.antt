@@ -1,2 +1,3 @@
 pub mod Stripes
-pub mod Course
+pub mod Alone
+pub mod Parts

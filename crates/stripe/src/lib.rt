@@ -2,302 +2,228 @@
 #![tactic(auto)]
 
 ghost use Rattle.std.specs.Prelude.{◌≡◌, true, List, length, ℕ, ◌*◌, ◌≤◌, ◌<◌};
+ghost use Rattle.std.specs.Borrow.{Bor, MutBor};
 ghost use Rattle.table.specs.Limits.{max_stripes};
-ghost use Rattle.table.specs.Desk.{sources_bytes, survivors_bytes};
-ghost use Rattle.table.specs.Table.{Ready, Reaches, Survivors, desk_of};
+ghost use Rattle.table.specs.Desk.{sources_bytes};
+ghost use Rattle.table.specs.Desks.{Ready, Survivors, desk_of};
 ghost use Rattle.walk.specs.Ends.{Finishes};
+ghost use Rattle.plan.specs.Plan.{way_of, Planned};
 ghost use Rattle.survivors.specs.Packets.{EncodesTo, stripe};
+ghost use Rattle.rebuild.specs.Parts.{rebuild_number, rebuild_count};
 ghost use Rattle.rebuild.specs.Stages.{RebuildMade};
-ghost use Rattle.lanes.specs.Lanes.{lane_words, Places, Stripes, LanesRead};
-ghost use Rattle.stripe.specs.Course.{SourcesAlone, Course};
+ghost use Rattle.lanes.specs.Lanes.{lane_words, Stripes, LanesRead};
+ghost use Rattle.stripe.specs.Alone.{SourcesAlone};
+ghost use Rattle.stripe.specs.Parts.{log_number, log_good, log_count};
 ghost use Rattle.stripe.specs.Stripes.{LogDecided};
 
-use plan::PARITIES;
-use rebuild::RebuildAnswer;
-use search::COLUMNS;
-use table::{Number, Shape, Table};
+use lanes::Log;
+use plan::Plan;
+use rebuild::Unread;
+use search::Missing;
+use table::{Desk, Refusal, Table};
 
 // The bytes of as many sources as there can be.
 const SOURCES_BYTES: usize = Table::SOURCES * Table::MAX_BYTES;
 
-// What rebuild log gives: how many stripes are good, and the count of steps, which is one for all stripes.
-#[derive(Clone, Copy)]
-pub struct LogAnswer {
-    pub number: u64,
+// Why a logbook was not rebuilt to its end: the refusal, how many stripes are good, and with a stall the count of steps made before it, else 0.
+#[derive(Clone, Copy, Debug, PartialEq, Eq)]
+pub struct BadLog {
+    pub refusal: Refusal,
     pub good: u64,
     pub count: u64,
 }
 
-// A stripe's number with no count.
-fn bad(number: u64) -> RebuildAnswer
-    ensures { (result.number ≡ number) × (result.count ≡ 0) }
-{
-    RebuildAnswer { number, count: 0 }
+// A refusal with no stripe and no count.
+impl From<Refusal> for BadLog {
+    ghost from_gives = { λ r e. (e.refusal ≡ r) × (e.good ≡ 0) × (e.count ≡ 0) };
+
+    fn from(refusal: Refusal) -> BadLog {
+        BadLog {
+            refusal,
+            good: 0,
+            count: 0,
+        }
+    }
 }
 
 // One stripe whose packets are its sources: 9, and the sources into out, which has their length; refused, out as it was.
-fn stripe_of_sources(
-    s: Shape,
-    shifts: &[u8; Table::CELLS],
-    reaches: &[u8; Table::PARITIES],
-    packets: &[u8],
-    out: &mut [u8],
-) -> RebuildAnswer
-    requires ready { Ready s shifts.now }
-    requires reaches { Reaches s shifts.now reaches.now }
-    requires sources_alone { SourcesAlone (desk_of s shifts.now) }
-    requires survivors { Survivors s shifts.now packets.now }
-    requires out_len { length out.old ≡ sources_bytes (desk_of s shifts.now) }
-    ensures { RebuildMade (desk_of s shifts.now) packets.now out.old result.number result.count out.new }
+fn stripe_of_sources(desk: &Desk, packets: &[u8], out: &mut [u8]) -> Result<u64, Unread>
+    requires sources_alone { SourcesAlone (desk_of desk.now) }
+    requires survivors { Survivors desk.now packets.now }
+    requires out_len { length out.old ≡ sources_bytes (desk_of desk.now) }
+    ensures { RebuildMade (desk_of desk.now) packets.now out.old (rebuild_number result) (rebuild_count result) out.new }
 {
-    if survivors::stray(s, shifts, reaches, packets) {
-        return bad(Number::STRAY);
+    if survivors::stray(desk, packets) {
+        return Err(Unread::from(Refusal::Stray));
     }
     bits::known(packets);
     bits::copy_front(out, packets);
-    RebuildAnswer {
-        number: 0,
-        count: 0,
-    }
+    Ok(0)
 }
 
-// One stripe by a plan, if any source is missing: 9 and 10, and its sources into out, which has their length; refused, out as it was.
+// One stripe by a plan for its missing sources: 9 and 10, and its sources into out, which has their length; refused, out as it was.
 fn stripe_by_plan(
-    s: Shape,
-    shifts: &[u8; Table::CELLS],
-    reaches: &[u8; Table::PARITIES],
-    way: u8,
-    held: &[u8; PARITIES],
-    columns: &[u8; COLUMNS],
-    rises: &[u8; Table::SOURCES],
-    missing: u8,
+    desk: &Desk,
+    plan: &Plan,
+    missing: &Missing,
     packets: &[u8],
     out: &mut [u8],
-) -> RebuildAnswer
-    requires ready { Ready s shifts.now }
-    requires reaches { Reaches s shifts.now reaches.now }
-    requires course { Course (desk_of s shifts.now) way missing held.now columns.now rises.now }
-    requires survivors { Survivors s shifts.now packets.now }
-    requires out_len { length out.old ≡ sources_bytes (desk_of s shifts.now) }
-    ensures { RebuildMade (desk_of s shifts.now) packets.now out.old result.number result.count out.new }
+) -> Result<u64, Unread>
+    requires ready { Ready desk.now }
+    requires planned { Planned (desk_of desk.now) (way_of plan.now.way) missing.now.count plan.now.rows missing.now.columns plan.now.rises }
+    requires survivors { Survivors desk.now packets.now }
+    requires out_len { length out.old ≡ sources_bytes (desk_of desk.now) }
+    ensures { RebuildMade (desk_of desk.now) packets.now out.old (rebuild_number result) (rebuild_count result) out.new }
 {
-    if missing == 0 {
-        return stripe_of_sources(s, shifts, reaches, packets, out);
-    }
     let mut rows = [0u64; survivors::WORDS];
-    let consistent = decode::solve_back(
-        s, shifts, reaches, way, held, columns, rises, missing, packets, &mut rows,
-    );
-    if survivors::stray(s, shifts, reaches, packets) {
-        return bad(Number::STRAY);
+    let consistent = decode::solve_back(desk, plan, missing, packets, &mut rows);
+    if survivors::stray(desk, packets) {
+        return Err(Unread::from(Refusal::Stray));
     }
     if !consistent {
-        return bad(Number::FOREIGN);
+        return Err(Unread::from(Refusal::Foreign));
     }
-    rebuild::store_sources(s, &rows, out);
-    RebuildAnswer {
-        number: 0,
-        count: missing as u64 * table::source_bits(s) as u64,
-    }
+    rebuild::store_sources(desk, &rows, out);
+    Ok(missing.count as u64 * desk.source_bits() as u64)
 }
 
-// The stripes one after another, each by the plan if any source is missing, up to the first bad one.
-pub fn log_by_plan(
-    s: Shape,
-    shifts: &[u8; Table::CELLS],
-    reaches: &[u8; Table::PARITIES],
-    way: u8,
-    held: &[u8; PARITIES],
-    columns: &[u8; COLUMNS],
-    rises: &[u8; Table::SOURCES],
-    missing: u8,
+// The stripes one after another, each made from its packets and put into its part of out, up to the first bad one.
+fn in_turn<F: Fn(usize, &[u8], &mut [u8]) -> Result<u64, Unread>>(
+    desk: &Desk,
     stripes: usize,
     packets: &[u8],
     out: &mut [u8],
-) -> LogAnswer
-    requires ready { Ready s shifts.now }
-    requires reaches { Reaches s shifts.now reaches.now }
-    requires course { Course (desk_of s shifts.now) way missing held.now columns.now rises.now }
+    make: F,
+) -> Result<u64, BadLog>
     requires le_stripes { (1 ≤ stripes) × (stripes ≤ max_stripes) }
-    requires stripes { Stripes (desk_of s shifts.now) stripes packets.now }
-    requires out_len { length out.old ≡ stripes * sources_bytes (desk_of s shifts.now) }
-    ensures { LogDecided (desk_of s shifts.now) stripes packets.now out.old result.number result.good result.count out.new }
+    requires stripes { Stripes (desk_of desk.now) stripes packets.now }
+    requires out_len { length out.old ≡ stripes * sources_bytes (desk_of desk.now) }
+    requires takes { (t : ℕ) (own : Bor (List ℕ)) (part : MutBor (List ℕ)) → t < stripes → own.now ≡ stripe (desk_of desk.now) packets.now t
+        → length part.now ≡ sources_bytes (desk_of desk.now) → F.pre make t own part }
+    requires makes { (t : ℕ) (own : Bor (List ℕ)) (part : MutBor (List ℕ)) (made : _) (left : MutBor (List ℕ)) → t < stripes → own.now ≡ stripe (desk_of desk.now) packets.now t
+        → F.post make t own part made left → RebuildMade (desk_of desk.now) own.now part.now (rebuild_number made) (rebuild_count made) left.now }
+    ensures { LogDecided (desk_of desk.now) stripes packets.now out.old (log_number result) (log_good stripes result) (log_count result) out.new }
 {
-    let n = table::packets::bytes_of_survivors(s, shifts, reaches);
-    let w = table::packets::sources_bytes(s);
+    let n = desk.bytes_of_survivors();
+    let w = desk.sources_bytes();
     let mut count = 0;
-    let mut t = 0;
-    while t < stripes {
+    for t in 0..stripes {
         let from = t * n;
         let end = from + n;
         let to = t * w;
         let last = to + w;
-        let made = stripe_by_plan(
-            s,
-            shifts,
-            reaches,
-            way,
-            held,
-            columns,
-            rises,
-            missing,
-            &packets[from..end],
-            &mut out[to..last],
-        );
-        if made.number != 0 {
-            return LogAnswer {
-                number: made.number,
-                good: t as u64,
-                count: made.count,
-            };
+        match make(t, &packets[from..end], &mut out[to..last]) {
+            Ok(made) => count = made,
+            Err(bad) => {
+                return Err(BadLog {
+                    refusal: bad.refusal,
+                    good: t as u64,
+                    count: bad.count,
+                });
+            }
         }
-        count = made.count;
-        t += 1;
     }
-    LogAnswer {
-        number: 0,
-        good: stripes as u64,
-        count,
-    }
+    Ok(count)
+}
+
+// The stripes one after another, whose packets are their sources, up to the first bad one.
+pub fn log_of_sources(
+    desk: &Desk,
+    stripes: usize,
+    packets: &[u8],
+    out: &mut [u8],
+) -> Result<u64, BadLog>
+    requires sources_alone { SourcesAlone (desk_of desk.now) }
+    requires le_stripes { (1 ≤ stripes) × (stripes ≤ max_stripes) }
+    requires stripes { Stripes (desk_of desk.now) stripes packets.now }
+    requires out_len { length out.old ≡ stripes * sources_bytes (desk_of desk.now) }
+    ensures { LogDecided (desk_of desk.now) stripes packets.now out.old (log_number result) (log_good stripes result) (log_count result) out.new }
+{
+    in_turn(desk, stripes, packets, out, |_, own, part| {
+        stripe_of_sources(desk, own, part)
+    })
+}
+
+// The stripes one after another, each by the plan for the missing sources, up to the first bad one.
+pub fn log_by_plan(
+    desk: &Desk,
+    plan: &Plan,
+    missing: &Missing,
+    stripes: usize,
+    packets: &[u8],
+    out: &mut [u8],
+) -> Result<u64, BadLog>
+    requires ready { Ready desk.now }
+    requires planned { Planned (desk_of desk.now) (way_of plan.now.way) missing.now.count plan.now.rows missing.now.columns plan.now.rises }
+    requires le_stripes { (1 ≤ stripes) × (stripes ≤ max_stripes) }
+    requires stripes { Stripes (desk_of desk.now) stripes packets.now }
+    requires out_len { length out.old ≡ stripes * sources_bytes (desk_of desk.now) }
+    ensures { LogDecided (desk_of desk.now) stripes packets.now out.old (log_number result) (log_good stripes result) (log_count result) out.new }
+{
+    in_turn(desk, stripes, packets, out, |_, own, part| {
+        stripe_by_plan(desk, plan, missing, own, part)
+    })
 }
 
 // One stripe whose only candidates are these sources: 9 and 10, and the sources into out, which has their length; refused, out as it was.
 fn stripe_of_candidate(
-    s: Shape,
-    shifts: &[u8; Table::CELLS],
-    reaches: &[u8; Table::PARITIES],
+    desk: &Desk,
     count: u64,
     sources: &[u8],
     packets: &[u8],
     out: &mut [u8],
-) -> RebuildAnswer
-    requires ready { Ready s shifts.now }
-    requires reaches { Reaches s shifts.now reaches.now }
-    requires finishes { Finishes (desk_of s shifts.now) count }
-    requires survivors { Survivors s shifts.now packets.now }
-    requires sources_len { length sources.now ≡ sources_bytes (desk_of s shifts.now) }
-    requires by_index { (x : List ℕ) → EncodesTo (desk_of s shifts.now) packets.now x → x ≡ sources.now }
-    requires out_len { length out.old ≡ sources_bytes (desk_of s shifts.now) }
-    ensures { RebuildMade (desk_of s shifts.now) packets.now out.old result.number result.count out.new }
+) -> Result<u64, Unread>
+    requires finishes { Finishes (desk_of desk.now) count }
+    requires survivors { Survivors desk.now packets.now }
+    requires sources_len { length sources.now ≡ sources_bytes (desk_of desk.now) }
+    requires by_index { (x : List ℕ) → EncodesTo (desk_of desk.now) packets.now x → x ≡ sources.now }
+    requires out_len { length out.old ≡ sources_bytes (desk_of desk.now) }
+    ensures { RebuildMade (desk_of desk.now) packets.now out.old (rebuild_number result) (rebuild_count result) out.new }
 {
-    if survivors::stray(s, shifts, reaches, packets) {
-        return bad(Number::STRAY);
+    if survivors::stray(desk, packets) {
+        return Err(Unread::from(Refusal::Stray));
     }
-    if !encode::same_packets(s, shifts, reaches, sources, packets) {
-        return bad(Number::FOREIGN);
+    if !encode::same_packets(desk, sources, packets) {
+        return Err(Unread::from(Refusal::Foreign));
     }
     bits::known(sources);
     bits::copy_front(out, sources);
-    RebuildAnswer { number: 0, count }
+    Ok(count)
 }
 
-// Stripe t out of its lane: 9 and 10, and its sources into out, which has their length; refused, out as it was.
+// Stripe t, whose own packets are lent too, out of its lane: 9 and 10, and its sources into out, which has their length; refused, out as it was.
 fn stripe_of_lane(
-    s: Shape,
-    shifts: &[u8; Table::CELLS],
-    reaches: &[u8; Table::PARITIES],
-    places: &[u16; lanes::PACKETS],
+    log: &Log<'_>,
     words: &[u16],
     count: u64,
-    stripes: usize,
-    n: usize,
     t: usize,
-    packets: &[u8],
+    own: &[u8],
     out: &mut [u8],
-) -> RebuildAnswer
-    requires ready { Ready s shifts.now }
-    requires reaches { Reaches s shifts.now reaches.now }
-    requires places { Places (desk_of s shifts.now) places.now }
+) -> Result<u64, Unread>
     requires words_len { length words.now ≡ lane_words }
-    requires stripes_le_max_stripes { stripes ≤ max_stripes }
-    requires n_value { n ≡ survivors_bytes (desk_of s shifts.now) }
-    requires t_lt_stripes { t < stripes }
-    requires stripes { Stripes (desk_of s shifts.now) stripes packets.now }
-    requires lanes_read { LanesRead (desk_of s shifts.now) packets.now stripes count true words.now }
-    requires out_len { length out.old ≡ sources_bytes (desk_of s shifts.now) }
-    ensures { RebuildMade (desk_of s shifts.now) (stripe (desk_of s shifts.now) packets.now t) out.old result.number result.count out.new }
+    requires t_lt_stripes { t < log.now.stripes }
+    requires own { own.now ≡ stripe (desk_of log.now.desk.now) log.now.packets.now t }
+    requires lanes_read { LanesRead (desk_of log.now.desk.now) log.now.packets.now log.now.stripes count true words.now }
+    requires out_len { length out.old ≡ sources_bytes (desk_of log.now.desk.now) }
+    ensures { RebuildMade (desk_of log.now.desk.now) own.now out.old (rebuild_number result) (rebuild_count result) out.new }
 {
-    let w = table::packets::sources_bytes(s);
-    let mut sources = [0u8; SOURCES_BYTES];
-    lanes::read_stripe(
-        s,
-        shifts,
-        places,
-        packets,
-        stripes,
-        n,
-        words,
-        t,
-        &mut sources[..w],
-    );
-    bits::known(&sources[..w]);
-    let from = t * n;
-    let end = from + n;
-    stripe_of_candidate(
-        s,
-        shifts,
-        reaches,
-        count,
-        &sources[..w],
-        &packets[from..end],
-        out,
-    )
+    let desk = log.desk;
+    let mut room = [0u8; SOURCES_BYTES];
+    let sources = &mut room[..desk.sources_bytes()];
+    lanes::read_stripe(log, words, t, sources);
+    bits::known(sources);
+    stripe_of_candidate(desk, count, sources, own, out)
 }
 
 // The stripes one after another, each out of its lane, up to the first bad one.
-pub fn log_of_lanes(
-    s: Shape,
-    shifts: &[u8; Table::CELLS],
-    reaches: &[u8; Table::PARITIES],
-    places: &[u16; lanes::PACKETS],
-    words: &[u16],
-    count: u64,
-    stripes: usize,
-    n: usize,
-    packets: &[u8],
-    out: &mut [u8],
-) -> LogAnswer
-    requires ready { Ready s shifts.now }
-    requires reaches { Reaches s shifts.now reaches.now }
-    requires places { Places (desk_of s shifts.now) places.now }
+pub fn log_of_lanes(log: &Log<'_>, words: &[u16], count: u64, out: &mut [u8]) -> Result<u64, BadLog>
     requires words_len { length words.now ≡ lane_words }
-    requires le_stripes { (1 ≤ stripes) × (stripes ≤ max_stripes) }
-    requires n_value { n ≡ survivors_bytes (desk_of s shifts.now) }
-    requires stripes { Stripes (desk_of s shifts.now) stripes packets.now }
-    requires lanes_read { LanesRead (desk_of s shifts.now) packets.now stripes count true words.now }
-    requires out_len { length out.old ≡ stripes * sources_bytes (desk_of s shifts.now) }
-    ensures { LogDecided (desk_of s shifts.now) stripes packets.now out.old result.number result.good result.count out.new }
+    requires some { 1 ≤ log.now.stripes }
+    requires lanes_read { LanesRead (desk_of log.now.desk.now) log.now.packets.now log.now.stripes count true words.now }
+    requires out_len { length out.old ≡ log.now.stripes * sources_bytes (desk_of log.now.desk.now) }
+    ensures { LogDecided (desk_of log.now.desk.now) log.now.stripes log.now.packets.now out.old (log_number result) (log_good log.now.stripes result) (log_count result) out.new }
 {
-    let w = table::packets::sources_bytes(s);
-    let mut t = 0;
-    while t < stripes {
-        let start = t * w;
-        let end = start + w;
-        let read = stripe_of_lane(
-            s,
-            shifts,
-            reaches,
-            places,
-            words,
-            count,
-            stripes,
-            n,
-            t,
-            packets,
-            &mut out[start..end],
-        );
-        if read.number != 0 {
-            return LogAnswer {
-                number: read.number,
-                good: t as u64,
-                count: read.count,
-            };
-        }
-        t += 1;
-    }
-    LogAnswer {
-        number: 0,
-        good: stripes as u64,
-        count,
-    }
+    in_turn(log.desk, log.stripes, log.packets, out, |t, own, part| {
+        stripe_of_lane(log, words, count, t, own, part)
+    })
 }

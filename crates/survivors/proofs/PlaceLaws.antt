@@ -12,8 +12,9 @@ use Rattle.bits.proofs.SumLaws.{one_at_times}
 use Rattle.bits.proofs.BitLaws.{bit_at_lt}
 use Rattle.bits.proofs.SliceLaws.{slice_past}
 use Rattle.table.specs.Desk.{Desk, mark, packet_bytes, place_of}
-use Rattle.table.specs.Table.{NextMark, desk_of}
-use Rattle.table.specs.declared.Shape.{Shape}
+use Rattle.table.specs.Table.{NextMark}
+use Rattle.table.specs.Desks.{desk_of}
+use Rattle.table.specs.declared.desks.Desk as laid
 use Rattle.table.proofs.Bounds.{Bounded, parity_fits}
 use Rattle.table.proofs.PacketLaws.{source_packet_bytes}
 use Rattle.rows.specs.Rows.{row_bits, row_in, AddedTo}
@@ -22,24 +23,24 @@ use Rattle.survivors.specs.Packets.{came, came_parity}
 use Rattle.survivors.specs.Remainders.{source_in, InBytes, Placed}
 use Rattle.survivors.proofs.AtHand.{AtPacket, present_below, added_none, added_more, added_all}
 
-module _ (s : Shape) (shifts packets : List ℕ) where
+module _ (d : laid.Desk) (packets : List ℕ) where
   abbrev D : Desk
-  D = desk_of s shifts
+  D = desk_of d
 
   abbrev n : ℕ
-  n = s.k + s.m
+  n = d.k + d.m
 
   -- the packets at hand below packet i stand in their rows, and nothing else
   abbrev pub PlacedBelow : ℕ → List ℕ → Type 0
-  PlacedBelow i rows = (j p : ℕ) → p < row_bits → row_in rows j p ≡ (0 + present_below s.marks i j (bit_at (came D packets j) p)) % 2
+  PlacedBelow i rows = (j p : ℕ) → p < row_bits → row_in rows j p ≡ (0 + present_below d.marks i j (bit_at (came D packets j) p)) % 2
 
-  pub placed_first : (r : ℕ) → NextMark true s.marks 0 n r → (rows : List ℕ) → ((i p : ℕ) → row_in rows i p ≡ 0) → PlacedBelow r rows
-  placed_first r N rows z j p _ = z j p ∙ added_none s.marks 0 n r N j (bit_at (came D packets j) p) 0 (omega arith) (omega arith)
+  pub placed_first : (r : ℕ) → NextMark true d.marks 0 n r → (rows : List ℕ) → ((i p : ℕ) → row_in rows i p ≡ 0) → PlacedBelow r rows
+  placed_first r N rows z j p _ = z j p ∙ added_none d.marks 0 n r N j (bit_at (came D packets j) p) 0 (omega arith) (omega arith)
 
-  pub placed_next : (from end i r : ℕ) → AtPacket D s.marks n from i → i < n → end ≡ from + packet_bytes D i → NextMark true s.marks (i + 1) n r → (rows rows' : List ℕ)
+  pub placed_next : (from end i r : ℕ) → AtPacket D d.marks n from i → i < n → end ≡ from + packet_bytes D i → NextMark true d.marks (i + 1) n r → (rows rows' : List ℕ)
       → PlacedBelow i rows → AddedTo i (bit_at (take (end - from) (drop from packets))) rows rows' → PlacedBelow r rows'
   placed_next from end i r A l e N rows rows' before added j p lp =
-      added_more s.marks i n r (A.found l) N j _ 0 (row_in rows j p) (row_in rows' j p) (before j p lp)
+      added_more d.marks i n r (A.found l) N j _ 0 (row_in rows j p) (row_in rows' j p) (before j p lp)
       (added j p lp ∙ ap (λ v. (row_in rows j p + v) % 2) (one_at_times i j _ _ is_came))
     where
       is_came : i ≡ j → bit_at (take (end - from) (drop from packets)) p ≡ bit_at (came D packets j) p
@@ -48,9 +49,9 @@ module _ (s : Shape) (shifts packets : List ℕ) where
           ap (λ x. bit_at (slice packets from x) p) size
           ∙ ap (λ x. bit_at (slice packets x (packet_bytes D i)) p) A.starts ∙ ap (λ x. bit_at (came D packets x) p) f
 
-  pub placed_last : s.marks / 2 ^ n ≡ 0 → (i : ℕ) → i ≡ n → (rows : List ℕ) → PlacedBelow i rows → Placed D packets rows
+  pub placed_last : d.marks / 2 ^ n ≡ 0 → (i : ℕ) → i ≡ n → (rows : List ℕ) → PlacedBelow i rows → Placed D packets rows
   placed_last none i e rows B j p lp =
-      added_all s.marks n none j (bit_at (came D packets j) p) 0 (row_in rows j p) (subst (λ x. PlacedBelow x rows) e B j p lp) ∙ small (mark s.marks j) _ (bit_at_lt (came D packets j) p)
+      added_all d.marks n none j (bit_at (came D packets j) p) 0 (row_in rows j p) (subst (λ x. PlacedBelow x rows) e B j p lp) ∙ small (mark d.marks j) _ (bit_at_lt (came D packets j) p)
     where
       small : (v : Bool) (x : ℕ) → x < 2 → (0 + cond v x 0) % 2 ≡ cond v x 0
       small true x l = omega arith

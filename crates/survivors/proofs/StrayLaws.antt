@@ -13,8 +13,9 @@ use Rattle.bits.specs.Bits.{bit_at, ClearFrom, slice}
 use Rattle.bits.proofs.SumLaws.{all_some, all-at}
 use Rattle.bits.proofs.BitLaws.{bit_at_lt, bit_at_past}
 use Rattle.table.specs.Desk.{Desk, mark, packet_bits, packet_bytes}
-use Rattle.table.specs.Table.{NextMark, desk_of}
-use Rattle.table.specs.declared.Shape.{Shape}
+use Rattle.table.specs.Table.{NextMark}
+use Rattle.table.specs.Desks.{desk_of}
+use Rattle.table.specs.declared.desks.Desk as laid
 use Rattle.survivors.specs.Packets.{came, Stray}
 use Rattle.survivors.proofs.AtHand.{AtPacket}
 
@@ -45,26 +46,26 @@ one_above xs n not-clear = go (all_b (8 * length xs) clear) refl
       | no q ↦ bit_at_past xs p (omega arith)
     ]))
 
-module _ (s : Shape) (shifts packets : List ℕ) where
+module _ (d : laid.Desk) (packets : List ℕ) where
   abbrev D : Desk
-  D = desk_of s shifts
+  D = desk_of d
 
   abbrev n : ℕ
-  n = s.k + s.m
+  n = d.k + d.m
 
   -- no packet at hand below packet i has a one above its last bit
   abbrev pub ClearBelow : ℕ → Type 0
-  ClearBelow i = (j : ℕ) → j < i → mark s.marks j ≡ true → ClearFrom (came D packets j) (packet_bits D j)
+  ClearBelow i = (j : ℕ) → j < i → mark d.marks j ≡ true → ClearFrom (came D packets j) (packet_bits D j)
 
   -- none is passed on the way to packet r
-  pub clear_below_first : (r : ℕ) → NextMark true s.marks 0 n r → ClearBelow r
+  pub clear_below_first : (r : ℕ) → NextMark true d.marks 0 n r → ClearBelow r
   clear_below_first r N j l e = absurd (true≢false (sym e ∙ N.passed j (omega arith) l))
 
-  module _ (from i : ℕ) (A : AtPacket D s.marks n from i) (l : i < n) where
+  module _ (from i : ℕ) (A : AtPacket D d.marks n from i) (l : i < n) where
     is_came : slice packets from (packet_bytes D i) ≡ came D packets i
     is_came = ap (λ x. slice packets x (packet_bytes D i)) A.starts
 
-    pub clear_below_next : (r : ℕ) → NextMark true s.marks (i + 1) n r → ClearBelow i → ClearFrom (slice packets from (packet_bytes D i)) (packet_bits D i) → ClearBelow r
+    pub clear_below_next : (r : ℕ) → NextMark true d.marks (i + 1) n r → ClearBelow i → ClearFrom (slice packets from (packet_bytes D i)) (packet_bits D i) → ClearBelow r
     clear_below_next r N before here j h e = elim (dec_lt j i) [
       | yes q ↦ before j q e
       | no q ↦ elim (ℕ_discrete i j) [

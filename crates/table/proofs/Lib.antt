@@ -1,11 +1,13 @@
 pub mod CheckLaws
 pub mod ListLaws
 pub mod AnswerLaws
+pub mod RefusalLaws
 pub mod MarkLaws
 pub mod TableLaws
 pub mod FamilyLaws
 pub mod Tabulated
 pub mod ShapeLaws
+pub mod DeskLaws
 pub mod PacketLaws
 pub mod Bounds
 pub mod Taken

@@ -1,7 +1,7 @@
 -- Laws of the bits, bytes and places of packets. Assumes nothing.
 use mathlib.Core.Path.{◌≡◌, refl, sym, ap, ◌∙◌}
 use mathlib.Core.Bool.{Bool, true, false, cond}
-use Prim.Native.Nat.{ℕ, zero, suc, ◌+◌, ◌-◌, ◌*◌, ◌≤◌, ◌<◌}
+use Prim.Native.Nat.{ℕ, max, zero, suc, ◌+◌, ◌-◌, ◌*◌, ◌≤◌, ◌<◌}
 use native.Mathlib.Omega.{arith}
 use native.Mathlib.Numerals.{add-one}
 use native.Mathlib.Nat.{add-zero, add-sub_cancel_left, mul_comm}
@@ -15,9 +15,12 @@ use Rattle.table.specs.Limits.{max_length, max_bits, max_bytes}
 use Rattle.table.specs.Desk.{Desk, mark, most, source_bits, source_bytes, reach, packet_bits, packet_bytes, place_of, bytes_for}
 
 -- one value more
-pub most_more : (n : ℕ) (f : ℕ → ℕ) → pick (leb (f n) (most n f)) (most n f) (f n) ≡ most (n + 1) f
+pub most_more : (n : ℕ) (f : ℕ → ℕ) → max (most n f) (f n) ≡ most (n + 1) f
 unfolding most
-most_more n f = rw add-one
+most_more n f = rw add-one (elim (dec_le (f n) (most n f)) [
+  | yes h ↦ rw (le-leb (f n) (most n f) h) (omega arith)
+  | no h ↦ let l : most n f < f n = omega arith in rw (lt-leb (f n) (most n f) l) (omega arith)
+])
 
 -- the larger of two
 larger_left : (x y : ℕ) → x ≤ pick (leb y x) x y

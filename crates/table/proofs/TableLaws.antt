@@ -7,9 +7,7 @@ use Prim.Native.Nat.{ℕ, zero, suc, ◌+◌, ◌*◌, ◌/◌, ◌%◌, ◌≤�
 use native.Mathlib.Omega.{arith}
 use native.Mathlib.Nat.{mul-le-mul, mul-le-mul_right, div-lt_iff_lt-mul, mod-lt}
 use native.Mathlib.Decide.{ℕ_discrete, dec_lt, dec_le}
-use lib.Dec.{ltb}
-use borrow.Author.Tests.{lt-ltb, le-ltb, ltb-true, ltb-false}
-use Rattle.bits.specs.Bits.{Tells}
+use borrow.Author.Tests.{lt-ltb, le-ltb}
 use lib.ListN.{length, replicate, set, get_or-eq_default}
 use lib.Seq.{get_or-set_same, get_or-set_other}
 use borrow.Author.Count.{below_more}
@@ -180,7 +178,3 @@ laid_low k table shifts all low h i = elim (dec_lt i cells) [
 -- place i of m·k cells is in a row below m, and in a column
 pub row_in : (i k m : ℕ) → 1 ≤ k → i < m * k → (i / k < m) × (i % k < k)
 row_in i k m p h = ((div-lt_iff_lt-mul {k = k} {x = i} {y = m} p).1 h, mod-lt i p)
-
--- the test of two numbers tells whether what they are equal to is less
-pub tells_less : {x y x' y' : ℕ} → x ≡ x' → y ≡ y' → Tells (ltb x y) (x' < y')
-tells_less {x} {y} e f = record { so = λ t. omega (arith, ltb-true x y t); not_so = λ t h. omega (arith, ltb-false x y t) }

@@ -1,10 +1,9 @@
--- The shapes and tables of the code, and what they stand for.
-use Rattle.std.specs.Prelude.{◌≡◌, Bool, cond, not, ◌&&◌, List, ℕ, ◌+◌, ◌*◌, ◌/◌, ◌%◌, ◌^◌, ◌≤◌, ◌<◌, ltb, length}
+-- The tables of the code, what they stand for, and what holds of the numbers and shifts of a desk.
+use Rattle.std.specs.Prelude.{◌≡◌, Bool, cond, not, ◌&&◌, List, ℕ, ◌+◌, ◌*◌, ◌/◌, ◌%◌, ◌≤◌, ◌<◌, ltb}
 use Rattle.bits.specs.Sums.{at}
 use Rattle.table.specs.Limits.{max_k, max_m, max_length, max_shift, cells}
-use Rattle.table.specs.Desk.{Desk, entry, mark, source_bits, source_bytes, reach, survivors_bytes}
+use Rattle.table.specs.Desk.{entry, most, mark, source_bits}
 use Rattle.table.specs.Family.{house_shift, family_shift}
-use Rattle.table.specs.declared.Shape.{Shape}
 use Rattle.table.specs.declared.Table.{Table}
 
 -- cell i of the full sheet, eight to a row
@@ -23,40 +22,19 @@ laid_out k shifts a b = cond (ltb b k) (at shifts (a * max_k + b)) 0
 unfoldable pub room_of : ℕ → ℕ → ℕ → ℕ → ℕ
 room_of k l marks c = cond (ltb c k && not (mark marks c)) (source_bits l) 0
 
--- the desk of a shape and its shifts
-abbrev pub desk_of : Shape → List ℕ → Desk
-desk_of s shifts =
-    record {
-      k = s.k;
-      m = s.m;
-      bits = source_bits s.length;
-      bytes = source_bytes s.length;
-      shift = laid_out s.k shifts;
-      present = mark s.marks;
-    }
-
 -- numbers and shifts within their limits
-pub record Within (s : Shape) (shifts : List ℕ) : Type 0 where
-  pub k_low : 1 ≤ s.k
-  pub k_high : s.k ≤ max_k
-  pub m_low : 1 ≤ s.m
-  pub m_high : s.m ≤ max_m
-  pub l_low : 1 ≤ s.length
-  pub l_high : s.length ≤ max_length
+pub record Within (k m length : ℕ) (shifts : List ℕ) : Type 0 where
+  pub k_low : 1 ≤ k
+  pub k_high : k ≤ max_k
+  pub m_low : 1 ≤ m
+  pub m_high : m ≤ max_m
+  pub l_low : 1 ≤ length
+  pub l_high : length ≤ max_length
   pub low : (i : ℕ) → at shifts i ≤ max_shift
 
--- so, and no mark above the packets is set
-pub record Ready (s : Shape) (shifts : List ℕ) : Type 0 where
-  pub within : Within s shifts
-  pub none_above : s.marks / 2 ^ (s.k + s.m) ≡ 0
-
--- the packets are as long as those at hand
-abbrev pub Survivors : Shape → List ℕ → List ℕ → Type 0
-Survivors s shifts packets = length packets ≡ survivors_bytes (desk_of s shifts)
-
--- the reach of each parity, in its place
-abbrev pub Reaches : Shape → List ℕ → List ℕ → Type 0
-Reaches s shifts reaches = (a : ℕ) → a < s.m → at reaches a ≡ reach (desk_of s shifts) a
+-- the reach of each parity, the largest shift of its row, in its place
+abbrev pub Measured : ℕ → ℕ → List ℕ → List ℕ → Type 0
+Measured k m shifts reaches = (a : ℕ) → a < m → at reaches a ≡ most k (laid_out k shifts a)
 
 -- t holds the table: k columns, m rows, its shifts laid out eight to a row, none above the limit
 pub record Holds (k m : ℕ) (table : List ℕ) (t : Table) : Type 0 where

@@ -1,10 +1,47 @@
-// The shifts of the families of Gong and Sung 2017, by their rules. Parity a and source b are counted from 1.
+// The families of shift tables, and their shifts by their rules. Parity a and source b are counted from 1.
 ghost use Rattle.std.specs.Prelude.{◌≡◌, ◌≤◌, ◌<◌};
-ghost use Rattle.table.specs.Limits.{max_k, max_m, max_family, cells};
-ghost use Rattle.table.specs.Family.{triangle, bowl, tall_shift, hankel_shift, vandermonde_shift};
+ghost use Rattle.table.specs.Limits.{max_k, max_m, cells};
+ghost use Rattle.table.specs.Family.{house_shift, triangle, bowl, tall_shift, hankel_shift, vandermonde_shift};
+ghost use Rattle.table.specs.Families.{family_of, Named};
 ghost use Rattle.table.specs.Table.{OfFamily, family_cell};
 
-use crate::{Family, Table};
+use crate::{Refusal, Table};
+
+// The families of shift tables, each with its number.
+#[derive(Clone, Copy, Debug, PartialEq, Eq)]
+pub enum Family {
+    // the house family
+    House = 1,
+
+    // the Hankel family (Gong and Sung 2017)
+    Hankel = 2,
+
+    // the Vandermonde family (Gong and Sung 2017)
+    Vandermonde = 3,
+}
+
+impl TryFrom<u64> for Family {
+    type Error = Refusal;
+
+    ghost try_from_gives = { Named };
+
+    fn try_from(number: u64) -> Result<Self, Refusal> {
+        match number {
+            1 => Ok(Family::House),
+            2 => Ok(Family::Hankel),
+            3 => Ok(Family::Vandermonde),
+            _ => Err(Refusal::Family),
+        }
+    }
+}
+
+// The house family.
+fn house_shift(a: usize, b: usize) -> usize
+    requires { (a ≤ max_m) × (1 ≤ b) × (b ≤ max_k) }
+    ensures { result ≡ house_shift a b }
+{
+    a * (b - 1)
+}
 
 // Half of n·(n + 1).
 fn triangle(n: usize) -> usize
@@ -52,31 +89,28 @@ fn vandermonde_shift(a: usize, b: usize) -> usize
     (a - 1) * (b - 1)
 }
 
-// Cell i of the Hankel or the Vandermonde table, laid out eight to a row.
-fn cell(k: usize, m: usize, family: u64, i: usize) -> u8
-    requires k_le_max_k { (k ≤ max_k) × (m ≤ max_m) × (i < cells) }
-    requires le_family { (2 ≤ family) × (family ≤ max_family) }
-    ensures { result ≡ family_cell family k m i }
+// Cell i of a family's table, laid out eight to a row.
+fn cell(k: usize, m: usize, family: Family, i: usize) -> u8
+    requires { (k ≤ max_k) × (m ≤ max_m) × (i < cells) }
+    ensures { result ≡ family_cell (family_of family) k m i }
 {
     let a = i / Table::SOURCES + 1;
     let b = i % Table::SOURCES + 1;
-    if family == Family::HANKEL {
-        return hankel_shift(k, m, a, b) as u8;
+    match family {
+        Family::House => house_shift(a, b) as u8,
+        Family::Hankel => hankel_shift(k, m, a, b) as u8,
+        Family::Vandermonde => vandermonde_shift(a, b) as u8,
     }
-    vandermonde_shift(a, b) as u8
 }
 
-// The Hankel or the Vandermonde table, filled cell by cell; the house family has its sheet.
-pub fn filled(k: u64, m: u64, family: u64) -> Table
-    requires k_le_max_k { (k ≤ max_k) × (m ≤ max_m) }
-    requires le_family { (2 ≤ family) × (family ≤ max_family) }
-    ensures { OfFamily family k m result }
+// The table of a family, filled cell by cell.
+pub fn filled(k: u64, m: u64, family: Family) -> Table
+    requires { (k ≤ max_k) × (m ≤ max_m) }
+    ensures { OfFamily (family_of family) k m result }
 {
     let mut shifts = [0u8; Table::CELLS];
-    let mut i = 0;
-    while i < Table::CELLS {
+    for i in 0..Table::CELLS {
         shifts[i] = cell(k as usize, m as usize, family, i);
-        i += 1;
     }
     Table {
         k: k as usize,

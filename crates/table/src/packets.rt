@@ -1,63 +1,13 @@
 // The bits, the bytes and the place of each packet. Packets are counted from 0.
-ghost use Rattle.std.specs.Prelude.{◌≡◌, true, false, [], leb, length, ℕ, ◌+◌, ◌*◌, ◌/◌, ◌^◌, ◌≤◌, ◌<◌};
-ghost use Rattle.bits.specs.Sums.{pick};
+ghost use Rattle.std.specs.Prelude.{◌≡◌, true, false, ℕ, ◌+◌, ◌*◌, ◌≤◌, ◌<◌};
+ghost use Rattle.bits.specs.Sums.{at};
 ghost use Rattle.table.specs.Limits.{max_k, max_m, max_length, max_shift, max_packets, all_sources, longest};
-ghost use Rattle.table.specs.Desk.{reach, sources_bytes, source_place, packet_bits, packet_bytes, parities_bytes, survivors_bytes};
-ghost use Rattle.table.specs.Table.{Within, desk_of, Reaches, NextMark};
+ghost use Rattle.table.specs.Desk.{most, source_bits, source_bytes, sources_bytes, packet_bits, packet_bytes, parities_bytes, survivors_bytes};
+ghost use Rattle.table.specs.Table.{Measured, NextMark, laid_out};
+ghost use Rattle.table.specs.Desks.{Stands, Remarked, desk_of};
+ghost use Rattle.table.specs.Checks.{Checked, shape_checks};
 
-use crate::{Shape, Table};
-
-// The larger of two numbers.
-fn larger(x: usize, y: usize) -> usize
-    ensures { result ≡ pick (leb y x) x y }
-{
-    if y <= x { x } else { y }
-}
-
-// How far parity a shifts its sources up: the largest shift of its row.
-pub fn reach(s: Shape, shifts: &[u8; Table::CELLS], a: usize) -> usize
-    requires { Within s shifts.now × (a < s.m) }
-    ensures { (result ≡ reach (desk_of s shifts.now) a) × (result ≤ max_shift) }
-{
-    let mut x = 0;
-    let mut b = 0;
-    while b < s.k {
-        x = larger(x, crate::shift_of(s, shifts, a, b));
-        b += 1;
-    }
-    x
-}
-
-// Puts the reach of every parity in its place.
-pub fn put_reaches(s: Shape, shifts: &[u8; Table::CELLS], reaches: &mut [u8])
-    requires within { Within s shifts.now }
-    requires reaches_len { length reaches.old ≡ max_m }
-    ensures { Reaches s shifts.now reaches.new }
-{
-    let mut a = 0;
-    while a < s.m {
-        reaches[a] = reach(s, shifts, a) as u8;
-        a += 1;
-    }
-}
-
-// The reach of every parity, which the lengths below are worked out from.
-pub fn reaches(s: Shape, shifts: &[u8; Table::CELLS]) -> [u8; Table::PARITIES]
-    requires { Within s shifts.now }
-    ensures { Reaches s shifts.now result }
-{
-    let mut reaches = [0u8; Table::PARITIES];
-    put_reaches(s, shifts, &mut reaches);
-    reaches
-}
-
-// The bytes of all sources: no shift matters.
-pub fn sources_bytes(s: Shape) -> usize
-    requires { (s.k ≤ max_k) × (s.length ≤ max_length) }
-    ensures { (result ≡ sources_bytes (desk_of s [])) × (result ≤ all_sources) }
-{
-    s.k * crate::source_bytes(s)
-}
+use crate::{Desk, Table, lay_out};
 
 // The first packet present from packet i on, or n where there is none below n.
 pub fn next_present(marks: u64, i: usize, n: usize) -> usize
@@ -68,8 +18,8 @@ pub fn next_present(marks: u64, i: usize, n: usize) -> usize
     if rest == 0 {
         return n;
     }
-    let next = i + u64::trailing_zeros(rest) as usize;
-    if next < n { next } else { n }
+    let next = i + rest.trailing_zeros() as usize;
+    next.min(n)
 }
 
 // The first packet missing from packet i on, or n where there is none below n.
@@ -77,82 +27,157 @@ pub fn next_missing(marks: u64, i: usize, n: usize) -> usize
     requires { (i ≤ n) × (n ≤ max_packets) }
     ensures { NextMark false marks i n result }
 {
-    let next = i + u64::trailing_zeros(u64::MAX - (marks >> i)) as usize;
-    if next < n { next } else { n }
+    let next = i + (u64::MAX - (marks >> i)).trailing_zeros() as usize;
+    next.min(n)
 }
 
-// The bits of packet i, by the reaches.
-pub fn bits_of(
-    s: Shape,
-    shifts: &[u8; Table::CELLS],
-    reaches: &[u8; Table::PARITIES],
-    i: usize,
-) -> usize
-    requires within { Within s shifts.now }
-    requires reaches { Reaches s shifts.now reaches.now }
-    requires i_bound { i < s.k + s.m }
-    ensures { (result ≡ packet_bits (desk_of s shifts.now) i) × (result ≤ 8 * longest) }
+// The bits of a source of so many bytes.
+pub fn source_bits(length: usize) -> usize
+    requires { length ≤ max_length }
+    ensures { result ≡ source_bits length }
 {
-    let k = s.k;
-    if i < k {
-        return crate::source_bits(s);
-    }
-    crate::source_bits(s) + crate::wide(reaches[i - k])
+    8 * length
 }
 
-// The bytes of packet i, by the reaches.
-pub fn bytes_of(
-    s: Shape,
-    shifts: &[u8; Table::CELLS],
-    reaches: &[u8; Table::PARITIES],
-    i: usize,
-) -> usize
-    requires within { Within s shifts.now }
-    requires reaches { Reaches s shifts.now reaches.now }
-    requires i_bound { i < s.k + s.m }
-    ensures { (result ≡ packet_bytes (desk_of s shifts.now) i) × (result ≤ longest) }
+// The bytes of a source.
+pub fn source_bytes(length: usize) -> usize
+    ensures { result ≡ source_bytes length }
 {
-    if i < s.k {
-        return crate::source_bytes(s);
-    }
-    (bits_of(s, shifts, reaches, i) + 7) / 8
+    length
 }
 
-// The bytes of all parities, by the reaches.
-pub fn bytes_of_parities(
-    s: Shape,
-    shifts: &[u8; Table::CELLS],
-    reaches: &[u8; Table::PARITIES],
-) -> usize
-    requires within { Within s shifts.now }
-    requires reaches { Reaches s shifts.now reaches.now }
-    ensures { result ≡ parities_bytes (desk_of s shifts.now) }
+// The bytes of k sources.
+pub fn sources_bytes(k: usize, length: usize) -> usize
+    requires { (k ≤ max_k) × (length ≤ max_length) }
+    ensures { (result ≡ k * source_bytes length) × (result ≤ all_sources) }
 {
-    let mut total = 0;
-    let mut a = 0;
-    while a < s.m {
-        total += bytes_of(s, shifts, reaches, s.k + a);
-        a += 1;
-    }
-    total
+    k * source_bytes(length)
 }
 
-// The bytes of all packets present, from one to the next, by the reaches.
-pub fn bytes_of_survivors(
-    s: Shape,
-    shifts: &[u8; Table::CELLS],
-    reaches: &[u8; Table::PARITIES],
-) -> usize
-    requires within { Within s shifts.now }
-    requires reaches { Reaches s shifts.now reaches.now }
-    ensures { result ≡ survivors_bytes (desk_of s shifts.now) }
+// How far parity a shifts its sources up: the largest shift of its row.
+pub fn reach(k: usize, shifts: &[u8; Table::CELLS], a: usize) -> usize
+    requires { (k ≤ max_k) × (a < max_m) × ((i : ℕ) → at shifts.now i ≤ max_shift) }
+    ensures { (result ≡ most k (laid_out k shifts.now a)) × (result ≤ max_shift) }
 {
-    let n = s.k + s.m;
-    let mut total = 0;
-    let mut i = next_present(s.marks, 0, n);
-    while i < n {
-        total += bytes_of(s, shifts, reaches, i);
-        i = next_present(s.marks, i + 1, n);
+    let mut x = 0;
+    for b in 0..k {
+        x = x.max(usize::from(shifts[a * Table::SOURCES + b]));
     }
-    total
+    x
+}
+
+// The reach of every parity.
+fn reaches_of(k: usize, m: usize, shifts: &[u8; Table::CELLS]) -> [u8; Table::PARITIES]
+    requires { (k ≤ max_k) × (m ≤ max_m) × ((i : ℕ) → at shifts.now i ≤ max_shift) }
+    ensures { Measured k m shifts.now result }
+{
+    let mut reaches = [0u8; Table::PARITIES];
+    for a in 0..m {
+        reaches[a] = reach(k, shifts, a) as u8;
+    }
+    reaches
+}
+
+impl Desk {
+    // The desk of numbers and bytes that were accepted, with no packets at hand.
+    pub fn new(k: u64, m: u64, l: u64, table: &[u8]) -> Desk
+        requires { Checked (shape_checks k m l table.now) 0 }
+        ensures { Stands k m l table.now 0 result }
+    {
+        let k = k as usize;
+        let m = m as usize;
+        let mut shifts = [0u8; Table::CELLS];
+        lay_out(k, m, table, &mut shifts);
+        Desk {
+            k,
+            m,
+            length: l as usize,
+            marks: 0,
+            shifts,
+            reaches: reaches_of(k, m, &shifts),
+        }
+    }
+
+    // Puts the packets of these marks at hand.
+    pub fn put_marks(&mut self, marks: u64)
+        ensures { Remarked marks self.old self.new }
+    {
+        self.marks = marks;
+    }
+
+    // The bits of a source.
+    pub fn source_bits(&self) -> usize
+        ensures { result ≡ source_bits self.now.length }
+    {
+        source_bits(self.length)
+    }
+
+    // The bytes of a source.
+    pub fn source_bytes(&self) -> usize
+        ensures { result ≡ source_bytes self.now.length }
+    {
+        source_bytes(self.length)
+    }
+
+    // The shift of parity a and source b.
+    pub fn shift_of(&self, a: usize, b: usize) -> usize
+        requires { (a < self.now.m) × (b < self.now.k) }
+        ensures { (result ≡ laid_out self.now.k self.now.shifts a b) × (result ≤ max_shift) }
+    {
+        usize::from(self.shifts[a * Table::SOURCES + b])
+    }
+
+    // The bytes of all sources: no shift matters.
+    pub fn sources_bytes(&self) -> usize
+        ensures { (result ≡ sources_bytes (desk_of self.now)) × (result ≤ all_sources) }
+    {
+        sources_bytes(self.k, self.length)
+    }
+
+    // The bits of packet i.
+    pub fn bits_of(&self, i: usize) -> usize
+        requires { i < self.now.k + self.now.m }
+        ensures { (result ≡ packet_bits (desk_of self.now) i) × (result ≤ 8 * longest) }
+    {
+        if i < self.k {
+            return self.source_bits();
+        }
+        self.source_bits() + usize::from(self.reaches[i - self.k])
+    }
+
+    // The bytes of packet i.
+    pub fn bytes_of(&self, i: usize) -> usize
+        requires { i < self.now.k + self.now.m }
+        ensures { (result ≡ packet_bytes (desk_of self.now) i) × (result ≤ longest) }
+    {
+        if i < self.k {
+            return self.source_bytes();
+        }
+        (self.bits_of(i) + 7) / 8
+    }
+
+    // The bytes of all parities.
+    pub fn bytes_of_parities(&self) -> usize
+        ensures { result ≡ parities_bytes (desk_of self.now) }
+    {
+        let mut total = 0;
+        for a in 0..self.m {
+            total += self.bytes_of(self.k + a);
+        }
+        total
+    }
+
+    // The bytes of all packets present, from one to the next.
+    pub fn bytes_of_survivors(&self) -> usize
+        ensures { result ≡ survivors_bytes (desk_of self.now) }
+    {
+        let n = self.k + self.m;
+        let mut total = 0;
+        let mut i = next_present(self.marks, 0, n);
+        while i < n {
+            total += self.bytes_of(i);
+            i = next_present(self.marks, i + 1, n);
+        }
+        total
+    }
 }

@@ -42,7 +42,7 @@ fn digits_of(n: u64) -> Digits
     let mut left = n;
     while 10 <= left {
         text[start] = b'0' + (left % 10) as u8;
-        left = left / 10;
+        left /= 10;
         start -= 1;
     }
     text[start] = b'0' + left as u8;
@@ -55,7 +55,5 @@ pub fn put_numeral(out: &mut [u8], at: usize, n: u64) -> usize
     ensures { (result ≡ at + length (numeral n)) × (result ≤ at + max_digits) × PutAt out.old at (numeral n) out.new }
 {
     let d = digits_of(n);
-    let text = d.text;
-    let start = d.start;
-    put(out, at, &text[start..])
+    put(out, at, &d.text[d.start..])
 }

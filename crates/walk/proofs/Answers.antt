@@ -1,6 +1,6 @@
 -- The answer of an accepted walk, computed, and that it meets the promise: for examples. Assumes nothing.
-use mathlib.Core.Path.{◌≡◌, refl, sym, subst}
-use mathlib.Core.Bool.{Bool, true, false, cond}
+use mathlib.Core.Path.{refl, sym, subst}
+use Rattle.std.specs.Int.{from_bool}
 use mathlib.Core.List.{List}
 use Prim.Native.Nat.{ℕ, ◌*◌, ◌≤◌}
 use native.Mathlib.Omega.{arith}
@@ -10,13 +10,13 @@ use Rattle.bits.specs.Sums.{at, count}
 use Rattle.bits.proofs.SumLaws.{count_not}
 use Rattle.table.specs.Limits.{max_k, noughts}
 use Rattle.table.specs.Desk.{Desk, desk}
-use Rattle.table.specs.Checks.{Checked, Flag, marked_checks}
-use Rattle.walk.specs.Walk.{Run, Fits, Whole}
+use Rattle.table.specs.Checks.{Checked, marked_checks}
+use Rattle.walk.specs.Walk.{Run, Fits}
 use Rattle.walk.specs.Compute.{whole_b, walk_from}
 use Rattle.walk.specs.Promise.{Finished, Walked}
 use Rattle.walk.proofs.Runs.{run_fits}
 use Rattle.walk.proofs.Totals.{all, gone}
-use Rattle.walk.proofs.Computed.{walk_ends, flag_one, flag_none}
+use Rattle.walk.proofs.Computed.{walk_ends, flagged}
 use Rattle.walk.proofs.Reached.{at-noughts, run_reaches}
 use Rattle.table.proofs.AnswerLaws.{answer_done}
 use Rattle.table.proofs.ShapeLaws.{shaped, marked_parts}
@@ -30,7 +30,7 @@ pub record Answer : Type 0 where
 unfoldable pub answer_of : Desk → Answer
 answer_of D =
     let r = walk_from D (D.bits * D.k) noughts in
-    record { count = length r.0; whole = cond (whole_b D (at r.1)) 1 0; progress = r.1 }
+    record { count = length r.0; whole = from_bool (whole_b D (at r.1)); progress = r.1 }
 
 module _ (D : Desk) where
   fits_noughts : Fits D (at noughts)
@@ -41,13 +41,6 @@ module _ (D : Desk) where
       let h : count D.k (gone D) ≤ D.k = omega (arith, count_not D.k D.present) in
       mul-le-mul_left D.bits h
 
-  flag : (g : ℕ → ℕ) → Fits D g → Flag (Whole D g) (cond (whole_b D g) 1 0)
-  flag g fit = go (whole_b D g) refl
-    where
-      go : (v : Bool) → whole_b D g ≡ v → Flag (Whole D g) (cond v 1 0)
-      go true e = flag_one D g fit e
-      go false e = flag_none D g e
-
   finished : D.k ≤ max_k → Finished D (answer_of D).count (answer_of D).whole (answer_of D).progress
   unfolding answer_of
   finished kl =
@@ -57,7 +50,7 @@ module _ (D : Desk) where
         reached = run_reaches D (subst (λ (g : ℕ → ℕ). Run D g w.0 (at w.1)) (sym at-noughts) r.0);
         stuck = r.1;
         size = r.2;
-        flagged = flag (at w.1) (run_fits D r.0 fits_noughts);
+        flagged = flagged D (at w.1) (run_fits D r.0 fits_noughts) _ refl;
       }
 
 abbrev pub Meets : ℕ → ℕ → ℕ → List ℕ → ℕ → Answer → Type 0

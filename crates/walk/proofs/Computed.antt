@@ -3,6 +3,7 @@ use mathlib.Core.Path.{◌≡◌, refl, sym, ◌∙◌, fun_ext, subst}
 use mathlib.Core.Logic.{inl, inr}
 use mathlib.Core.Bool.{Bool, true, false, ◌||◌, true≢false, or-true}
 use mathlib.Core.List.{List}
+use Rattle.std.specs.Int.{from_bool}
 use Prim.Native.Nat.{ℕ, zero, suc, ◌+◌, ◌≤◌, ◌<◌}
 use native.Mathlib.Omega.{arith}
 use native.Mathlib.Decide.{dec_lt, ℕ_discrete}
@@ -14,7 +15,7 @@ use Rattle.bits.specs.Sums.{at}
 use Rattle.bits.proofs.SumLaws.{one_at_same, one_at_other, all-at, all_of, lowest_is, lowest_not}
 use Rattle.table.specs.Desk.{Desk}
 use Rattle.table.specs.Checks.{Flag}
-use Rattle.walk.specs.Walk.{Order, bump, Free, Bare, Stuck, Run, done, step, Fits, Whole, Lowest, Next, none, one}
+use Rattle.walk.specs.Walk.{Order, bump, Bare, Stuck, Run, done, step, Fits, Whole, Lowest, Next, none, one}
 use Rattle.walk.specs.Compute.{source_of, parity_of, full_b, whole_b, walk_from}
 use Rattle.walk.proofs.Runs.{bump_fits}
 use Rattle.walk.proofs.Scan.{bare_source, source_bare}
@@ -66,9 +67,6 @@ module _ (D : Desk) where
   pub next_one : (g after : List ℕ) (a b : ℕ) → a < m → a ≡ parity_of D (at g) → b ≡ source_of D (at g) a → after ≡ set g b (at g b + 1) → Next D g (a + 1) (b + 1) after
   next_one g after a b l ea eb e = one a b (rw (eb, ea) (pair_lowest (at g) (omega arith))) refl refl e
 
-  pub next_free : (g : List ℕ) (a b : ℕ) → a < m → a ≡ parity_of D (at g) → b ≡ source_of D (at g) a → Free D (at g) b
-  next_free g a b l ea eb = (found_bare (at g) a b l ea eb).free
-
   -- a source that is present or at its end
   pub full_present : (g : ℕ → ℕ) (b : ℕ) → present b ≡ true → full_b D g b ≡ true
   unfolding full_b
@@ -95,11 +93,10 @@ module _ (D : Desk) where
       go b l true e = full_present g b e
       go b l false e = full_ended g b (omega (arith, w b (l, e)))
 
-  pub flag_one : (g : ℕ → ℕ) → Fits D g → whole_b D g ≡ true → Flag (Whole D g) 1
-  flag_one g fit e = inl (whole_of g fit e, refl)
-
-  pub flag_none : (g : ℕ → ℕ) → whole_b D g ≡ false → Flag (Whole D g) 0
-  flag_none g e = inr ((λ w. true≢false (sym (of_whole g w) ∙ e)), refl)
+  -- whether every missing source is whole, as a number
+  pub flagged : (g : ℕ → ℕ) → Fits D g → (v : Bool) → whole_b D g ≡ v → Flag (Whole D g) (from_bool v)
+  flagged g fit true e = inl (whole_of g fit e, refl)
+  flagged g fit false e = inr ((λ w. true≢false (sym (of_whole g w) ∙ e)), refl)
 
   -- steps from g until none is left
   abbrev pub EndsAt : List ℕ → Order × List ℕ → Type 0

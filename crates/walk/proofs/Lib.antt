@@ -3,9 +3,9 @@ pub mod Totals
 pub mod Grow
 pub mod ReadLaws
 pub mod Scan
+pub mod LowLaws
 pub mod Computed
 pub mod Reached
 pub mod Ends
-pub mod Desks
 pub mod Answers
 pub mod OneAnswer

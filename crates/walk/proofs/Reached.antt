@@ -4,12 +4,12 @@ use mathlib.Core.List.{List, [], ◌∷◌, ◌++◌}
 use Prim.Native.Nat.{ℕ, ◌+◌, ◌≤◌, ◌<◌}
 use native.Mathlib.Omega.{arith}
 use native.Mathlib.Decide.{dec_lt}
-use lib.ListN.{length, length-append, length-set, get_or-replicate, get_or-eq_default}
+use lib.ListN.{length, set, length-append, length-set, get_or-replicate, get_or-eq_default}
 use Rattle.bits.specs.Sums.{at}
 use Rattle.table.specs.Limits.{max_k, noughts}
 use Rattle.table.specs.Desk.{Desk}
 use Rattle.table.specs.Checks.{Flag}
-use Rattle.walk.specs.Walk.{Order, bump, Bare, Run, done, Fits, Whole, Next, none, one}
+use Rattle.walk.specs.Walk.{Order, bump, Bare, Stuck, Run, done, Fits, Whole}
 use Rattle.walk.specs.Ends.{Reaches}
 use Rattle.walk.specs.Promise.{Finished}
 use Rattle.walk.proofs.Runs.{snoc, run_fits}
@@ -58,16 +58,11 @@ module _ (D : Desk) where
   pub reached_none : Reached noughts 0
   reached_none = record { steps = subst (Reaches D 0) at-noughts reaches_none; size = refl }
 
-  pub reached_more : {g after : List ℕ} {count parity source : ℕ} → k ≤ max_k → Reached g count → Next D g parity source after → (parity ≡ 0 → ⊥) → Reached after (count + 1)
-  reached_more kl r (none s p q e) n = absurd (n p)
-  reached_more {g} {after} {count} kl r (one a b w p q e) n = subst (λ (h : List ℕ). Reached h (count + 1)) (sym e) record {
-    steps = subst (Reaches D (count + 1)) (sym (at-bump g b (omega (arith, r.size, w.bare.free.0.0)))) (reaches_more a b r.steps w.bare);
+  pub reached_more : {g after : List ℕ} {count : ℕ} (a b : ℕ) → k ≤ max_k → Reached g count → Bare D (at g) a b → after ≡ set g b (at g b + 1) → Reached after (count + 1)
+  reached_more {g} {after} {count} a b kl r B e = subst (λ (h : List ℕ). Reached h (count + 1)) (sym e) record {
+    steps = subst (Reaches D (count + 1)) (sym (at-bump g b (omega (arith, r.size, B.free.0.0)))) (reaches_more a b r.steps B);
     size = length-set g b (at g b + 1) ∙ r.size;
   }
 
-  pub reached_end : {g after : List ℕ} {count parity source whole : ℕ} → Reached g count → Next D g parity source after → parity ≡ 0 → Flag (Whole D (at g)) whole → Finished D count whole g
-  reached_end r (none s p q e) z f = record { reached = r.steps; stuck = s; size = r.size; flagged = f }
-  reached_end r (one a b w p q e) z f = absurd (never a (sym p ∙ z))
-    where
-      never : (a : ℕ) → a + 1 ≡ 0 → ⊥
-      never a e = omega arith
+  pub reached_end : {g : List ℕ} {count whole : ℕ} → Reached g count → Stuck D (at g) → Flag (Whole D (at g)) whole → Finished D count whole g
+  reached_end r s f = record { reached = r.steps; stuck = s; size = r.size; flagged = f }

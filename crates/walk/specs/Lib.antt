@@ -4,3 +4,5 @@ pub mod Grow
 pub mod Read
 pub mod Compute
 pub mod Promise
+pub mod Parts
+pub mod Lows

@@ -1,153 +1,116 @@
 // The walk of the decoding, without data: bare pairs, the next step, and the walk to its end.
 #![tactic(auto)]
 
-ghost use Rattle.std.specs.Prelude.{◌≡◌, [], ◌+◌, ◌≤◌, ◌<◌, set};
+ghost use Rattle.std.specs.Prelude.{◌≡◌, [], ℕ, ◌+◌, ◌≤◌, ◌<◌, set, MatchOption};
 ghost use Rattle.bits.specs.Sums.{at};
-ghost use Rattle.table.specs.Limits.{max_k, max_length, max_bits, noughts};
-ghost use Rattle.table.specs.Table.{Within, desk_of};
-ghost use Rattle.table.specs.Checks.{Flag};
-ghost use Rattle.walk.specs.Walk.{Fits, Whole, Next};
-ghost use Rattle.walk.specs.Compute.{placed_of, lower_of, scan, source_of, parity_of, full_b, whole_b};
+ghost use Rattle.table.specs.Limits.{max_k, max_length, max_bits};
+ghost use Rattle.table.specs.Desk.{desk};
+ghost use Rattle.table.specs.Desks.{desk_of};
+ghost use Rattle.table.specs.Refusals.{told};
+ghost use Rattle.walk.specs.Walk.{Fits, Next};
+ghost use Rattle.walk.specs.Compute.{placed_of, lower_of, source_of, parity_of, full_b, whole_b};
+ghost use Rattle.walk.specs.Lows.{no_place, Lows};
 ghost use Rattle.walk.specs.Promise.{Stepped, Walked, Finished};
+ghost use Rattle.walk.specs.Parts.{parity_number, source_number, whole_number, step_parity, step_source, step_progress, walk_count, walk_whole, walk_progress};
 
-use table::{Shape, Table};
+use table::{Desk, Refusal, Table};
 
-// What next step gives: the pair, from 1, and the progress after it.
-#[derive(Clone, Copy)]
-pub struct StepAnswer {
-    pub number: u64,
-    pub parity: u64,
-    pub source: u64,
-    pub progress: [u64; Table::SOURCES],
-}
-
-// What walk gives: how many steps, whether every missing source is whole (1 or 0), and the progress at the end.
-#[derive(Clone, Copy)]
-pub struct WalkAnswer {
-    pub number: u64,
-    pub count: u64,
-    pub whole: u64,
-    pub progress: [u64; Table::SOURCES],
-}
-
-// The lowest next bit of a parity so far: where it stands, and whose it is. The source is k where there is none yet, and above k where two share the place.
-#[derive(Clone, Copy)]
-pub struct Low {
-    pub place: u64,
-    pub source: usize,
-}
-
-// A pair of a parity and a source, from 0; the parity is m where none is bare.
-#[derive(Clone, Copy)]
+// A pair of a parity and a source, from 0.
+#[derive(Clone, Copy, Debug, PartialEq, Eq)]
 pub struct Pair {
     pub parity: usize,
     pub source: usize,
 }
 
-// The lower of x and a bit of source b at a place; above k where they share it.
-fn placed(k: usize, x: Low, place: u64, b: usize) -> Low
-    requires { k ≤ max_k }
-    ensures { (result.place, result.source) ≡ placed_of k (x.place, x.source) place b }
+// What next step gives: the bare pair, if there is one, and the progress after it.
+#[derive(Clone, Copy, Debug, PartialEq, Eq)]
+pub struct Step {
+    pub pair: Option<Pair>,
+    pub progress: [u64; Table::SOURCES],
+}
+
+// What walk gives: how many steps, whether every missing source is whole, and the progress at the end.
+#[derive(Clone, Copy, Debug, PartialEq, Eq)]
+pub struct WalkEnd {
+    pub count: u64,
+    pub whole: bool,
+    pub progress: [u64; Table::SOURCES],
+}
+
+// The lowest next bit of a parity so far: its place, and whose it is. At first the place is above all others, and nobody's; it is nobody's too where two share it.
+#[derive(Clone, Copy)]
+struct Low {
+    place: u64,
+    source: Option<usize>,
+}
+
+// The lower of x and a bit of source b at a place.
+fn placed(x: Low, place: u64, b: usize) -> Low
+    requires place_bound { place < no_place }
+    ensures { (k : ℕ) → b < k → (s : ℕ × ℕ) → Lows k x.place x.source s → Lows k result.place result.source (placed_of k s place b) }
 {
-    if x.source == k {
-        return Low { place, source: b };
-    }
     if place < x.place {
-        return Low { place, source: b };
+        return Low {
+            place,
+            source: Some(b),
+        };
     }
     if place == x.place {
         return Low {
             place,
-            source: k + 1,
+            source: None,
         };
     }
     x
 }
 
 // The lowest next bit of parity a, with source b looked at too.
-fn lower(
-    s: Shape,
-    shifts: &[u8; Table::CELLS],
-    g: &[u64; Table::SOURCES],
-    a: usize,
-    b: usize,
-    x: Low,
-) -> Low
-    requires within { Within s shifts.now }
-    requires fits { Fits (desk_of s shifts.now) (at g.now) }
-    requires a_lt_m { a < s.m }
-    requires b_lt_k { b < s.k }
-    ensures { (result.place, result.source) ≡ lower_of (desk_of s shifts.now) (at g.now) a b (x.place, x.source) }
+fn lower(desk: &Desk, g: &[u64; Table::SOURCES], a: usize, b: usize, x: Low) -> Low
+    requires a_lt_m { a < desk.now.m }
+    requires b_lt_k { b < desk.now.k }
+    ensures { (s : ℕ × ℕ) → Lows desk.now.k x.place x.source s → Lows desk.now.k result.place result.source (lower_of (desk_of desk.now) (at g.now) a b s) }
 {
-    if table::marked(s.marks, b) {
+    if table::marked(desk.marks, b) {
         return x;
     }
-    if table::source_bits(s) as u64 <= g[b] {
+    if desk.source_bits() as u64 <= g[b] {
         return x;
     }
-    let place = table::shift_of(s, shifts, a, b) as u64 + g[b];
-    placed(s.k, x, place, b)
+    let place = desk.shift_of(a, b) as u64 + g[b];
+    placed(x, place, b)
 }
 
-// The source that is bare in parity a, or k or more.
-pub fn source_of(
-    s: Shape,
-    shifts: &[u8; Table::CELLS],
-    g: &[u64; Table::SOURCES],
-    a: usize,
-) -> usize
-    requires within { Within s shifts.now }
-    requires fits { Fits (desk_of s shifts.now) (at g.now) }
-    requires a_lt_m { a < s.m }
-    ensures { result ≡ source_of (desk_of s shifts.now) (at g.now) a }
+// The source that is bare in parity a, if there is one.
+pub fn source_of(desk: &Desk, g: &[u64; Table::SOURCES], a: usize) -> Option<usize>
+    requires fits { Fits (desk_of desk.now) (at g.now) }
+    requires a_lt_m { a < desk.now.m }
+    ensures { MatchOption result (desk.now.k ≤ source_of (desk_of desk.now) (at g.now) a) (λ b. (b < desk.now.k) × (b ≡ source_of (desk_of desk.now) (at g.now) a)) }
 {
-    if table::marked(s.marks, s.k + a) {
-        return scanned(s, shifts, g, a);
+    if !table::marked(desk.marks, desk.k + a) {
+        return None;
     }
-    s.k
-}
-
-// So for a parity at hand: the source whose next bit stands alone lowest there, or k or more.
-fn scanned(s: Shape, shifts: &[u8; Table::CELLS], g: &[u64; Table::SOURCES], a: usize) -> usize
-    requires within { Within s shifts.now }
-    requires fits { Fits (desk_of s shifts.now) (at g.now) }
-    requires a_lt_m { a < s.m }
-    ensures { result ≡ (scan (desk_of s shifts.now) (at g.now) a s.k).1 }
-{
     let mut x = Low {
-        place: 0,
-        source: s.k,
+        place: u64::MAX,
+        source: None,
     };
-    let mut b = 0;
-    while b < s.k {
-        x = lower(s, shifts, g, a, b, x);
-        b += 1;
+    for b in 0..desk.k {
+        x = lower(desk, g, a, b, x);
     }
     x.source
 }
 
-// The bare pair with the lowest parity.
-pub fn next_pair(s: Shape, shifts: &[u8; Table::CELLS], g: &[u64; Table::SOURCES]) -> Pair
-    requires within { Within s shifts.now }
-    requires fits { Fits (desk_of s shifts.now) (at g.now) }
-    ensures parity_value { result.parity ≡ parity_of (desk_of s shifts.now) (at g.now) }
-    ensures source_value { result.parity < s.m → result.source ≡ source_of (desk_of s shifts.now) (at g.now) result.parity }
+// The bare pair with the lowest parity, if there is one.
+pub fn next_pair(desk: &Desk, g: &[u64; Table::SOURCES]) -> Option<Pair>
+    requires fits { Fits (desk_of desk.now) (at g.now) }
+    ensures { MatchOption result (parity_of (desk_of desk.now) (at g.now) ≡ desk.now.m)
+        (λ p. (p.parity < desk.now.m) × (p.parity ≡ parity_of (desk_of desk.now) (at g.now)) × (p.source ≡ source_of (desk_of desk.now) (at g.now) p.parity)) }
 {
-    let mut a = 0;
-    while a < s.m {
-        let b = source_of(s, shifts, g, a);
-        if b < s.k {
-            return Pair {
-                parity: a,
-                source: b,
-            };
+    for parity in 0..desk.m {
+        if let Some(source) = source_of(desk, g, parity) {
+            return Some(Pair { parity, source });
         }
-        a += 1;
     }
-    Pair {
-        parity: a,
-        source: 0,
-    }
+    None
 }
 
 // One more bit of source b.
@@ -161,40 +124,16 @@ pub fn raised(mut g: [u64; Table::SOURCES], b: usize) -> [u64; Table::SOURCES]
 }
 
 // The next step from progress g.
-fn advance(s: Shape, shifts: &[u8; Table::CELLS], g: [u64; Table::SOURCES]) -> StepAnswer
-    requires within { Within s shifts.now }
-    requires fits { Fits (desk_of s shifts.now) (at g) }
-    ensures { (result.number ≡ 0) × Next (desk_of s shifts.now) g result.parity result.source result.progress }
+fn advance(desk: &Desk, g: [u64; Table::SOURCES]) -> Step
+    requires fits { Fits (desk_of desk.now) (at g) }
+    ensures { Next (desk_of desk.now) g (parity_number result.pair) (source_number result.pair) result.progress }
 {
-    let p = next_pair(s, shifts, &g);
-    let a = p.parity;
-    let b = p.source;
-    if s.m <= a {
-        return StepAnswer {
-            number: 0,
-            parity: 0,
-            source: 0,
-            progress: g,
-        };
-    }
-    StepAnswer {
-        number: 0,
-        parity: a as u64 + 1,
-        source: b as u64 + 1,
-        progress: raised(g, b),
-    }
-}
-
-// A step that was refused.
-fn no_step(number: u64) -> StepAnswer
-    ensures { (result.number ≡ number) × (result.parity ≡ 0) × (result.source ≡ 0) × (result.progress ≡ noughts) }
-{
-    StepAnswer {
-        number,
-        parity: 0,
-        source: 0,
-        progress: [0u64; Table::SOURCES],
-    }
+    let pair = next_pair(desk, &g);
+    let progress = match pair {
+        Some(p) => raised(g, p.source),
+        None => g,
+    };
+    Step { pair, progress }
 }
 
 // The bare pair with the lowest parity, then the lowest source, and the progress after it.
@@ -205,108 +144,65 @@ pub fn next_step(
     table: &[u8],
     marks: u64,
     progress: [u64; Table::SOURCES],
-) -> StepAnswer
-    ensures { Stepped k m l table.now marks progress result.number result.parity result.source result.progress }
+) -> Result<Step, Refusal>
+    ensures { Stepped k m l table.now marks progress (told result) (step_parity result) (step_source result) (step_progress result) }
 {
-    let o = checks::open_marked(k, m, l, table, marks);
-    if o.number != 0 {
-        return no_step(o.number);
-    }
-    let s = o.shape;
-    let t = o.table;
-    let shifts = t.shifts;
-    let number = checks::progress_number(s, &progress);
-    if number != 0 {
-        return no_step(number);
-    }
-    advance(s, &shifts, progress)
+    let desk = checks::open_marked(k, m, l, table, marks)?;
+    checks::check_progress(&desk, &progress)?;
+    Ok(advance(&desk, progress))
 }
 
-// Whether every missing source is whole: no shift matters.
-pub fn is_whole(s: Shape, g: &[u64; Table::SOURCES]) -> bool
-    requires k_le_max_k { s.k ≤ max_k }
-    requires length_le_max_length { s.length ≤ max_length }
-    ensures { result ≡ whole_b (desk_of s []) (at g.now) }
+// Whether source b, of so many bytes, is present or at its end.
+fn is_full(length: usize, marks: u64, g: &[u64; Table::SOURCES], b: usize) -> bool
+    requires length_le_max_length { length ≤ max_length }
+    requires b_lt_max_k { b < max_k }
+    ensures { (k : ℕ) → result ≡ full_b (desk k 0 length [] marks) (at g.now) b }
 {
-    let mut b = 0;
-    while b < s.k {
-        if is_full(s, g, b) {
-            b += 1;
-        } else {
+    table::marked(marks, b) || table::packets::source_bits(length) as u64 <= g[b]
+}
+
+// Whether every missing one of k sources of so many bytes is whole.
+pub fn all_whole(k: usize, length: usize, marks: u64, g: &[u64; Table::SOURCES]) -> bool
+    requires k_le_max_k { k ≤ max_k }
+    requires length_le_max_length { length ≤ max_length }
+    ensures { result ≡ whole_b (desk k 0 length [] marks) (at g.now) }
+{
+    for b in 0..k {
+        if !is_full(length, marks, g, b) {
             return false;
         }
     }
     true
 }
 
-// Whether source b is present or at its end.
-fn is_full(s: Shape, g: &[u64; Table::SOURCES], b: usize) -> bool
-    requires k_le_max_k { s.k ≤ max_k }
-    requires length_le_max_length { s.length ≤ max_length }
-    requires b_lt_k { b < s.k }
-    ensures { result ≡ full_b (desk_of s []) (at g.now) b }
+// Whether every missing source is whole: no shift matters.
+pub fn is_whole(desk: &Desk, g: &[u64; Table::SOURCES]) -> bool
+    ensures { result ≡ whole_b (desk_of desk.now) (at g.now) }
 {
-    if table::marked(s.marks, b) {
-        return true;
-    }
-    table::source_bits(s) as u64 <= g[b]
+    all_whole(desk.k, desk.length, desk.marks, g)
 }
 
-// The answer of a walk that ended at g after so many steps.
-fn ended(s: Shape, shifts: &[u8; Table::CELLS], count: u64, g: [u64; Table::SOURCES]) -> WalkAnswer
-    requires within { Within s shifts.now }
-    requires fits { Fits (desk_of s shifts.now) (at g) }
-    ensures { (result.number ≡ 0) × (result.count ≡ count) × Flag (Whole (desk_of s shifts.now) (at g)) result.whole × (result.progress ≡ g) }
+// The walk over a desk, from nothing to its end.
+fn to_end(desk: &Desk) -> WalkEnd
+    ensures { Finished (desk_of desk.now) result.count (whole_number result.whole) result.progress }
 {
-    if is_whole(s, &g) {
-        return WalkAnswer {
-            number: 0,
-            count,
-            whole: 1,
-            progress: g,
-        };
+    let mut g = [0u64; Table::SOURCES];
+    let mut count: u64 = 0;
+    while let Some(p) = next_pair(desk, &g) {
+        g = raised(g, p.source);
+        count += 1;
     }
-    WalkAnswer {
-        number: 0,
+    WalkEnd {
         count,
-        whole: 0,
+        whole: is_whole(desk, &g),
         progress: g,
     }
 }
 
-// The walk of an accepted shape, from nothing to its end.
-fn to_end(s: Shape, shifts: &[u8; Table::CELLS]) -> WalkAnswer
-    requires { Within s shifts.now }
-    ensures { (result.number ≡ 0) × Finished (desk_of s shifts.now) result.count result.whole result.progress }
-{
-    let mut g = [0u64; Table::SOURCES];
-    let mut count: u64 = 0;
-    loop {
-        let n = advance(s, shifts, g);
-        if n.parity == 0 {
-            return ended(s, shifts, count, g);
-        }
-        let after = n.progress;
-        g = after;
-        count += 1;
-    }
-}
-
 // The walk from nothing to its end: how many steps, whether every missing source is whole, and the progress.
-pub fn walk(k: u64, m: u64, l: u64, table: &[u8], marks: u64) -> WalkAnswer
-    ensures { Walked k m l table.now marks result.number result.count result.whole result.progress }
+pub fn walk(k: u64, m: u64, l: u64, table: &[u8], marks: u64) -> Result<WalkEnd, Refusal>
+    ensures { Walked k m l table.now marks (told result) (walk_count result) (walk_whole result) (walk_progress result) }
 {
-    let o = checks::open_marked(k, m, l, table, marks);
-    if o.number != 0 {
-        return WalkAnswer {
-            number: o.number,
-            count: 0,
-            whole: 0,
-            progress: [0u64; Table::SOURCES],
-        };
-    }
-    let s = o.shape;
-    let t = o.table;
-    let shifts = t.shifts;
-    to_end(s, &shifts)
+    let desk = checks::open_marked(k, m, l, table, marks)?;
+    Ok(to_end(&desk))
 }

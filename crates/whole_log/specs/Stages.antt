@@ -19,6 +19,3 @@ module _ (D : Desk) (stripes : ℕ) (packets : List ℕ) where
   -- 25 6 7 4 5 8 9 10
   abbrev pub log_striped_checks : ℕ → List ℕ → Checks
   log_striped_checks marks before = stripes_checks stripes ++ marks_checks D.k D.m marks ++ log_lent_checks before
-
-  abbrev pub LogStriped : ℕ → List ℕ → ℕ → ℕ → ℕ → List ℕ → Type 0
-  LogStriped marks before = LogAnswered D stripes packets (log_striped_checks marks before) before

@@ -12,14 +12,14 @@ ghost use Rattle.look.specs.Promise.{LookedAt};
 ghost use Rattle.card.specs.Promise.{BlockTaken};
 ghost use Rattle.chain.specs.Promise.{BlocksRead, BlocksWritten};
 
-use table::Table;
+use table::{Refusal, Table};
 
 // The table of a family, of k sources and m parities.
 #[unsafe(no_mangle)]
 pub extern "C" fn whx_family_table(k: u64, m: u64, family: u64, out: &mut [u8]) -> u64
     ensures { FamilyWritten k m family out.old result out.new }
 {
-    family::family_table(k, m, family, out)
+    table::told(&family::family_table(k, m, family, out))
 }
 
 // Whether differences grow down the table.
@@ -27,9 +27,9 @@ pub extern "C" fn whx_family_table(k: u64, m: u64, family: u64, out: &mut [u8]) 
 pub extern "C" fn whx_judge(k: u64, m: u64, table: &[u8], growing: &mut u64) -> u64
     ensures { Judged k m table.now result growing.new }
 {
-    let j = family::judge::judge(k, m, table);
-    *growing = j.growing;
-    j.number
+    let judged = family::judge::judge(k, m, table);
+    *growing = u64::from(judged.unwrap_or(false));
+    table::told(&judged)
 }
 
 // The bytes of one packet.
@@ -44,9 +44,9 @@ pub extern "C" fn whx_packet_length(
 ) -> u64
     ensures { PacketMeasured k m l table.now packet result length.new }
 {
-    let a = encode::packet_length(k, m, l, table, packet);
-    *length = a.length;
-    a.number
+    let bytes = encode::packet_length(k, m, l, table, packet);
+    *length = bytes.unwrap_or(0);
+    table::told(&bytes)
 }
 
 // The bytes of all parities.
@@ -54,9 +54,9 @@ pub extern "C" fn whx_packet_length(
 pub extern "C" fn whx_parities_length(k: u64, m: u64, l: u64, table: &[u8], length: &mut u64) -> u64
     ensures { ParitiesMeasured k m l table.now result length.new }
 {
-    let a = encode::parities_length(k, m, l, table);
-    *length = a.length;
-    a.number
+    let bytes = encode::parities_length(k, m, l, table);
+    *length = bytes.unwrap_or(0);
+    table::told(&bytes)
 }
 
 // The bytes of all packets present.
@@ -71,9 +71,9 @@ pub extern "C" fn whx_survivors_length(
 ) -> u64
     ensures { SurvivorsMeasured k m l table.now marks result length.new }
 {
-    let a = encode::survivors_length(k, m, l, table, marks);
-    *length = a.length;
-    a.number
+    let bytes = encode::survivors_length(k, m, l, table, marks);
+    *length = bytes.unwrap_or(0);
+    table::told(&bytes)
 }
 
 // All parities of the sources.
@@ -88,7 +88,7 @@ pub extern "C" fn whx_encode_all(
 ) -> u64
     ensures { EncodedAll k m l table.now sources.now out.old result out.new }
 {
-    encode::encode_all(k, m, l, table, sources, out)
+    table::told(&encode::encode_all(k, m, l, table, sources, out))
 }
 
 // The walk from nothing to its end.
@@ -105,12 +105,21 @@ pub extern "C" fn whx_walk(
 ) -> u64
     ensures { Walked k m l table.now marks result count.new whole.new progress.new }
 {
-    let w = walk::walk(k, m, l, table, marks);
-    let end = w.progress;
-    *count = w.count;
-    *whole = w.whole;
-    *progress = end;
-    w.number
+    match walk::walk(k, m, l, table, marks) {
+        Ok(end) => {
+            let reached = end.progress;
+            *count = end.count;
+            *whole = u64::from(end.whole);
+            *progress = reached;
+            Refusal::DONE
+        }
+        Err(refusal) => {
+            *count = 0;
+            *whole = 0;
+            *progress = [0u64; Table::SOURCES];
+            refusal.number()
+        }
+    }
 }
 
 // The next step.
@@ -128,13 +137,31 @@ pub extern "C" fn whx_next_step(
 ) -> u64
     ensures { Stepped k m l table.now marks progress.now result parity.new source.new after.new }
 {
-    let g = *progress;
-    let s = walk::next_step(k, m, l, table, marks, g);
-    let end = s.progress;
-    *parity = s.parity;
-    *source = s.source;
-    *after = end;
-    s.number
+    let from = *progress;
+    match walk::next_step(k, m, l, table, marks, from) {
+        Ok(step) => {
+            let reached = step.progress;
+            *after = reached;
+            match step.pair {
+                Some(pair) => {
+                    *parity = pair.parity as u64 + 1;
+                    *source = pair.source as u64 + 1;
+                    Refusal::DONE
+                }
+                None => {
+                    *parity = 0;
+                    *source = 0;
+                    Refusal::DONE
+                }
+            }
+        }
+        Err(refusal) => {
+            *parity = 0;
+            *source = 0;
+            *after = [0u64; Table::SOURCES];
+            refusal.number()
+        }
+    }
 }
 
 // Whether a list of steps finishes all missing sources, and where it goes wrong.
@@ -151,9 +178,16 @@ pub extern "C" fn whx_check_steps(
 ) -> u64
     ensures { StepsChecked k m l table.now marks parities.now sources.now result place.new }
 {
-    let c = steps::check_steps(k, m, l, table, marks, parities, sources);
-    *place = c.place;
-    c.number
+    match steps::check_steps(k, m, l, table, marks, parities, sources) {
+        Ok(()) => {
+            *place = 0;
+            Refusal::DONE
+        }
+        Err(bad) => {
+            *place = bad.place;
+            bad.refusal.number()
+        }
+    }
 }
 
 // One block from a card reader.
@@ -167,11 +201,20 @@ pub extern "C" fn whx_block(
 ) -> u64
     ensures { BlockTaken block.now dest.old result length.new sequence.new more.new dest.new }
 {
-    let t = card::block(block, dest);
-    *length = t.length;
-    *sequence = t.sequence;
-    *more = t.more;
-    t.number
+    match card::block(block, dest) {
+        Ok(taken) => {
+            *length = taken.length;
+            *sequence = taken.sequence;
+            *more = u64::from(taken.more);
+            Refusal::DONE
+        }
+        Err(refusal) => {
+            *length = 0;
+            *sequence = 0;
+            *more = 0;
+            refusal.number()
+        }
+    }
 }
 
 // A run of blocks from a card reader.
@@ -179,9 +222,9 @@ pub extern "C" fn whx_block(
 pub extern "C" fn whx_read_blocks(blocks: &[u8], dest: &mut [u8], length: &mut u64) -> u64
     ensures { BlocksRead blocks.now dest.old result length.new dest.new }
 {
-    let j = chain::read_blocks(blocks, dest);
-    *length = j.length;
-    j.number
+    let bytes = chain::read_blocks(blocks, dest);
+    *length = bytes.unwrap_or(0);
+    table::told(&bytes)
 }
 
 // A packet as a run of blocks.
@@ -194,9 +237,9 @@ pub extern "C" fn whx_write_blocks(
 ) -> u64
     ensures { BlocksWritten packet.now size dest.old result length.new dest.new }
 {
-    let w = chain::write_blocks(packet, size, dest);
-    *length = w.length;
-    w.number
+    let bytes = chain::write_blocks(packet, size, dest);
+    *length = bytes.unwrap_or(0);
+    table::told(&bytes)
 }
 
 // All sources from the packets at hand.
@@ -213,9 +256,16 @@ pub extern "C" fn whx_rebuild(
 ) -> u64
     ensures { Rebuilt k m l table.now marks packets.now out.old result count.new out.new }
 {
-    let a = rebuild::rebuild(k, m, l, table, marks, packets, out);
-    *count = a.count;
-    a.number
+    match rebuild::rebuild(k, m, l, table, marks, packets, out) {
+        Ok(made) => {
+            *count = made;
+            Refusal::DONE
+        }
+        Err(unread) => {
+            *count = unread.count;
+            unread.refusal.number()
+        }
+    }
 }
 
 // All sources of each stripe of a logbook from its packets at hand, up to the first bad stripe.
@@ -234,10 +284,18 @@ pub extern "C" fn whx_rebuild_log(
 ) -> u64
     ensures { LogRebuilt k m l table.now stripes marks packets.now out.old result good.new count.new out.new }
 {
-    let log = whole_log::rebuild_log(k, m, l, table, stripes, marks, packets, out);
-    *good = log.good;
-    *count = log.count;
-    log.number
+    match whole_log::rebuild_log(k, m, l, table, stripes, marks, packets, out) {
+        Ok(steps) => {
+            *good = stripes;
+            *count = steps;
+            Refusal::DONE
+        }
+        Err(bad) => {
+            *good = bad.good;
+            *count = bad.count;
+            bad.refusal.number()
+        }
+    }
 }
 
 // Any packet from the packets at hand.
@@ -254,7 +312,7 @@ pub extern "C" fn whx_packet(
 ) -> u64
     ensures { PacketMade k m l table.now marks packets.now wanted out.old result out.new }
 {
-    packet::packet(k, m, l, table, marks, packets, wanted, out)
+    table::told(&packet::packet(k, m, l, table, marks, packets, wanted, out))
 }
 
 // Where one source stands for reading.
@@ -274,9 +332,18 @@ pub extern "C" fn whx_look(
 ) -> u64
     ensures { LookedAt k m l table.now marks which survivors.now rebuilt.now result buffer.new start.new length.new }
 {
-    let a = look::look_at(k, m, l, table, marks, which, survivors, rebuilt);
-    *buffer = a.buffer;
-    *start = a.start;
-    *length = a.length;
-    a.number
+    match look::look_at(k, m, l, table, marks, which, survivors, rebuilt) {
+        Ok(place) => {
+            *buffer = place.buffer as u64;
+            *start = place.start;
+            *length = place.length;
+            Refusal::DONE
+        }
+        Err(refusal) => {
+            *buffer = 0;
+            *start = 0;
+            *length = 0;
+            refusal.number()
+        }
+    }
 }

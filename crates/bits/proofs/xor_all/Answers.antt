@@ -6,11 +6,11 @@ use Rattle.bits.specs.Bits.{xor_of}
 use Rattle.bits.proofs.BitLaws.{xor_of_more, xor_of_end}
 use Rattle.bits.proofs.xor_all.Goals as goal
 
-pub loop-i-init : goal.loop-i-init
-loop-i-init c = (omega arith, xor_zero_l (xor_of c.args.s.now))
+pub loop-y-init : goal.loop-y-init
+loop-y-init c = xor_zero_l (xor_of c.args.s.now)
 
-pub loop-i-preserved : goal.loop-i-preserved
-loop-i-preserved c = (omega arith, xor_of_more c.loop-i.x c.args.s.now c.loop-i.i (omega arith) ∙ c.loop-i.invariant.1)
+pub loop-y-preserved : goal.loop-y-preserved
+loop-y-preserved c = xor_of_more c.loop-y.x c.args.s.now c.loop-y.y-index (omega arith) ∙ c.loop-y.invariant
 
 pub returns : goal.returns
-returns c = sym (xor_of_end c.loop-i.x c.args.s.now c.loop-i.i (omega arith)) ∙ c.loop-i.invariant.1
+returns c = sym (xor_of_end c.loop-y.x c.args.s.now c.loop-y.y-index (omega arith)) ∙ c.loop-y.invariant

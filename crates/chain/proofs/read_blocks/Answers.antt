@@ -1,45 +1,46 @@
 -- The run is checked to its end, then the room, and only then anything is written. Assumes nothing.
-use mathlib.Core.Path.{refl, ap, ◌∙◌}
+use mathlib.Core.Path.{◌≡◌, refl, sym, ap, subst, ◌∙◌}
 use mathlib.Core.Logic.{inl, inr}
-use Prim.Native.Nat.{ℕ}
 use native.Mathlib.Omega.{arith}
+use borrow.Author.Rules.{rules}
 use lib.ListN.{length}
-use Rattle.table.specs.Checks.{Checked}
-use Rattle.table.proofs.CheckLaws.{stops, goes_on}
+use Rattle.std.specs.Prelude.{Err}
+use Rattle.table.specs.Refusals.{told, given}
+use Rattle.table.proofs.CheckLaws.{goes}
 use Rattle.table.proofs.AnswerLaws.{answer_refused, answer_done}
-use Rattle.chain.specs.Run.{rest_checks, joined_checks, read_checks}
+use Rattle.table.proofs.RefusalLaws.{numbered}
+use Rattle.chain.specs.Run.{rest_checks, joined_checks}
+use Rattle.chain.specs.Promise.{BlocksRead}
 use Rattle.chain.proofs.RunLaws.{numbered_run, run_once}
+use Rattle.chain.proofs.RunAnswers.{run-refused_answer}
 use Rattle.chain.proofs.read_blocks.Goals as goal
-use Rattle.chain.proofs.read_blocks.Goals.{Else-told-ne0}
 
--- past the first test the room decides
-joined : (c : Else-told-ne0) (n : ℕ) → let s = c.args in
-    Checked (joined_checks s.run.now (length s.dest.now)) n → Checked (read_checks s.run.now (length s.dest.now)) n
-joined c n x =
-    let s = c.args in
-    let run = s.run.now in
-    goes_on (rest_checks 0 run) (joined_checks run (length s.dest.now)) _ n (numbered_run (length run) 0 run) c.run_number-told.ensures.numbered c.if-told-ne0.false x
-
-pub returns-then-told-ne0 : goal.returns-then-told-ne0
-returns-then-told-ne0 c =
-    let s = c.args in
-    let run = s.run.now in
-    let told = c.run_number-told.ensures.numbered in
-    answer_refused _ _ _ (stops (rest_checks 0 run) (joined_checks run (length s.dest.now)) _ told c.if-told-ne0.true) c.if-told-ne0.true refl (refl, refl)
+pub returns-in_err-length : goal.returns-in_err-length
+returns-in_err-length c =
+    let dest = c.args.dest.now in
+    let e = c.in_err-length in
+    let r : c.from_residual.result ≡ Err e.field-0.0 = search rules in
+    subst (λ r. BlocksRead c.args.run.now dest (told r) (given r) dest) (sym r) (run-refused_answer e.ensures.numbered (numbered e.field-0.0) dest)
 
 pub returns-then-dest-length : goal.returns-then-dest-length
 returns-then-dest-length c =
-    let w = c.run_number-told.ensures.carries c.if-told-ne0.false in
-    answer_refused _ 16 _ (joined (goal.at.returns-then-dest-length c).Else-told-ne0 16 (inl ((w.0, w.1, omega (arith, c.if-dest-length.true, w.2)), refl))) (λ z. omega arith) refl (refl, refl)
+    let run = c.args.run.now in
+    let t = c.in_ok-length.ensures in
+    let w = t.carries in
+    let room = joined_checks run (length c.args.dest.now) in
+    answer_refused _ 16 16 (goes (rest_checks 0 run) room 16 (numbered_run (length run) 0 run) t.numbered (inl ((w.0, w.1, omega (arith, c.if-dest-length.true, w.2)), refl))) (λ z. omega arith) refl
+    (refl, refl)
 
 pub join-requires : goal.join-requires
-join-requires c =
-    let w = c.run_number-told.ensures.carries c.if-told-ne0.false in
-    (w.0, w.1, omega (arith, c.if-dest-length.false, w.2))
+join-requires c = let w = c.in_ok-length.ensures.carries in (w.0, w.1, omega (arith, c.if-dest-length.false, w.2))
 
 pub returns : goal.returns
 returns c =
-    let w = c.run_number-told.ensures.carries c.if-told-ne0.false in
+    let run = c.args.run.now in
+    let t = c.in_ok-length.ensures in
+    let w = t.carries in
     let j = c.join.ensures in
-    answer_done _ 0 (joined (goal.at.returns c).Else-told-ne0 0 (inr (λ x. omega (arith, x.2, ap length (run_once x.1 w.1), w.2, c.if-dest-length.false), refl))) refl
-    (j.0, j.1, w.2 ∙ ap length (run_once w.1 j.1), j.2)
+    let room = joined_checks run (length c.args.dest.now) in
+    answer_done _ 0
+    (goes (rest_checks 0 run) room 0 (numbered_run (length run) 0 run) t.numbered (inr (λ x. omega (arith, x.2, ap length (run_once x.1 w.1), w.2, c.if-dest-length.false), refl)))
+    refl (j.0, j.1, w.2 ∙ ap length (run_once w.1 j.1), j.2)

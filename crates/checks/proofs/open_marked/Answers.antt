@@ -1,31 +1,36 @@
--- What the shape refuses stays refused; the marks are looked at next, and past them the opened shape is the call's. Assumes nothing.
-use mathlib.Core.Path.{refl, subst}
-use Rattle.table.specs.Checks.{Checks, Checked, shape_checks, marks_checks}
-use Rattle.table.specs.declared.Shape.{Shape}
-use Rattle.table.proofs.CheckLaws.{numbered_by, goes, zero_checked}
-use Rattle.checks.proofs.OpenLaws.{refused_opens, opens_stops, opens_goes, opened_passes}
+-- What the shape refuses stays refused; the marks are looked at next, and past them the opened desk is the call's. Assumes nothing.
+use mathlib.Core.Path.{◌≡◌, refl, sym, subst}
+use mathlib.Core.List.{◌++◌}
+use borrow.Author.Rules.{rules}
+use Rattle.std.specs.Prelude.{Err}
+use Rattle.table.specs.Checks.{Checked, shape_checks, marks_checks}
+use Rattle.table.specs.Refusals.{number_of}
+use Rattle.table.specs.Desks.{Stands}
+use Rattle.table.proofs.CheckLaws.{numbered_by, goes}
+use Rattle.table.proofs.RefusalLaws.{ok_inj}
+use Rattle.table.proofs.DeskLaws.{remarked_stands}
+use Rattle.checks.specs.Opening.{Opens}
+use Rattle.checks.proofs.OpenLaws.{opens_refused, of_numbers}
 use Rattle.checks.proofs.open_marked.Goals as goal
-use Rattle.checks.proofs.open_marked.Goals.{After-marks_number-number, Start}
 
-abbrev marks : Start → Checks
-marks s = marks_checks s.args.k s.args.m s.args.marks
-
--- the marks were looked at with the call's own k and m
-marked : (c : After-marks_number-number) → Checked (marks c.before.before.before.before.before.before.before) c.marks_number-number.result
-marked c =
-    subst (λ (x : Shape). Checked (marks_checks x.k x.m c.args.marks) c.marks_number-number.result) (c.open_shape-o.ensures.formed c.if-o-ne0.false) c.marks_number-number.ensures
-
-pub returns-then-o-ne0 : goal.returns-then-o-ne0
-returns-then-o-ne0 c = opens_stops c.open_shape-o.ensures (marks (goal.at.returns-then-o-ne0 c).Start) c.if-o-ne0.true
-
-pub returns-then-number-ne0 : goal.returns-then-number-ne0
-returns-then-number-ne0 c =
-    let shape = shape_checks c.args.k c.args.m c.args.l c.args.table.now in
-    let both = goes shape (marks (goal.at.returns-then-number-ne0 c).Start) _ (numbered_by shape refl) (opened_passes c.open_shape-o.ensures c.if-o-ne0.false)
-    (marked (goal.at.returns-then-number-ne0 c).After-marks_number-number) in
-    refused_opens both c.if-number-ne0.true c.refused.ensures.0 c.refused.ensures.1
+pub returns-in_err-check_marks : goal.returns-in_err-check_marks
+returns-in_err-check_marks c =
+    let s = c.args in
+    let O = c.in_ok-desk.ensures in
+    let shape = shape_checks s.k s.m s.l s.table.now in
+    let n = number_of c.in_err-check_marks.field-0.0 in
+    let m : Checked (marks_checks s.k s.m s.marks) n = of_numbers (O.accepted _ refl) (λ k m l marks. Checked (marks_checks k m s.marks) n) c.in_err-check_marks.ensures in
+    let e : c.from_residual-in_err-check_marks.result ≡ Err c.in_err-check_marks.field-0.0 = search rules in
+    subst (λ r. Opens (shape ++ marks_checks s.k s.m s.marks) s.k s.m s.l s.table.now s.marks r) (sym e)
+    (opens_refused _ (goes shape (marks_checks s.k s.m s.marks) _ (numbered_by shape refl) O.numbered m))
 
 pub returns : goal.returns
 returns c =
-    opens_goes c.open_shape-o.ensures c.if-o-ne0.false (marks (goal.at.returns c).Start) (numbered_by (shape_checks c.args.k c.args.m c.args.l c.args.table.now) refl)
-    (zero_checked (marks (goal.at.returns c).Start) _ c.if-number-ne0.false (marked (goal.at.returns c).After-marks_number-number))
+    let s = c.args in
+    let O = c.in_ok-desk.ensures in
+    let shape = shape_checks s.k s.m s.l s.table.now in
+    let m : Checked (marks_checks s.k s.m s.marks) 0 = of_numbers (O.accepted _ refl) (λ k m l marks. Checked (marks_checks k m s.marks) 0) c.in_ok-check_marks.ensures in
+    record {
+      numbered = goes shape (marks_checks s.k s.m s.marks) 0 (numbered_by shape refl) O.numbered m;
+      accepted = λ d z. subst (Stands s.k s.m s.l s.table.now s.marks) (ok_inj z) (remarked_stands s.k s.m s.l s.table.now 0 s.marks _ _ (O.accepted _ refl) c.put_marks.ensures);
+    }

@@ -1,25 +1,21 @@
 -- The first choice counts up from 1, since no number can be lower.
 use mathlib.Core.Path.{sym, subst}
-use mathlib.Core.Logic.{inl, inr}
-use native.Mathlib.Omega.{arith}
-use Rattle.table.specs.Checks.{size_checks}
-use Rattle.table.proofs.CheckLaws.{zero_checked, sized}
+use mathlib.Core.Logic.{inl}
+use borrow.Author.Rules.{rules}
+use Rattle.table.specs.Checks.{Checked, size_checks}
 use Rattle.choices.specs.Promise.{Begins}
-use Rattle.choices.proofs.Successors.{size_refused, begins_run}
+use Rattle.choices.proofs.Successors.{begins_run}
 use Rattle.choices.proofs.first.Goals as goal
+use Rattle.choices.proofs.first.Goals.{After-count_up-ids}
 
-pub returns-then-size_number-ne0 : goal.returns-then-size_number-ne0
-returns-then-size_number-ne0 c =
-    let s = c.args in
-    inr (λ other b. size_refused s.k s.m _ c.size_number.ensures c.if-size_number-ne0.true b.sized, c.none.ensures)
+-- what is counted up is the first choice
+begun : (c : After-count_up-ids) → Begins c.args.k c.args.m c.count_up-ids.result
+begun c =
+    let size : Checked (size_checks c.args.k c.args.m) 0 = search rules in
+    subst (Begins c.args.k c.args.m) (sym c.count_up-ids.ensures) (begins_run c.args.k c.args.m size)
 
-pub count_up-ids-requires : goal.count_up-ids-requires
-count_up-ids-requires c =
-    let s = c.args in
-    omega (arith, sized s.k s.m (zero_checked (size_checks s.k s.m) _ c.if-size_number-ne0.false c.size_number.ensures))
+pub returns-clause-begins : goal.returns-clause-begins
+returns-clause-begins c = inl (begun (goal.at.returns-clause-begins c).After-count_up-ids)
 
-pub returns : goal.returns
-returns c =
-    let s = c.args in
-    let size = zero_checked (size_checks s.k s.m) _ c.if-size_number-ne0.false c.size_number.ensures in
-    inl (subst (Begins s.k s.m) (sym c.count_up-ids.ensures) (begins_run s.k s.m size))
+pub returns-clause-some : goal.returns-clause-some
+returns-clause-some c = begun (goal.at.returns-clause-some c).After-count_up-ids

@@ -4,7 +4,7 @@ use Rattle.encode.proofs.SameLaws.{SameBelow}
 use Rattle.encode.proofs.same_packets.Given as goal
 
 abbrev pub invariant-loop-i : goal.invariant-loop-i
-invariant-loop-i l = SameBelow l.s l.shifts l.sources l.packets l.from l.i
+invariant-loop-i l = SameBelow l.desk l.sources l.packets l.from l.i
 
 abbrev pub decreases-loop-i : goal.decreases-loop-i
-decreases-loop-i l = l.s.k + l.s.m - l.i
+decreases-loop-i l = l.desk.k + l.desk.m - l.i

@@ -1,20 +1,12 @@
--- Where the shape or the marks are refused there is no length; else it is that of the packets at hand. Assumes nothing.
+-- Refused as its shape and marks are; else the bytes are those of the call's own desk. Assumes nothing.
 use mathlib.Core.Path.{◌≡◌, refl}
-use Rattle.table.specs.Desk.{survivors_bytes}
-use Rattle.table.specs.Checks.{marked_checks}
-use Rattle.table.proofs.AnswerLaws.{answer_refused, answer_done}
-use Rattle.checks.proofs.OpenLaws.{opened_passes, at-desk}
+use mathlib.Core.List.{[]}
+use borrow.Author.Rules.{rules}
+use Rattle.std.specs.Prelude.{Err}
+use Rattle.checks.proofs.OpenLaws.{opened_stops}
 use Rattle.encode.proofs.survivors_length.Goals as goal
 
-pub returns-then-o-ne0 : goal.returns-then-o-ne0
-returns-then-o-ne0 c =
-    let s = c.args in
-    let e = c.no_length.ensures in
-    answer_refused (marked_checks s.k s.m s.l s.table.now s.marks) c.open_marked-o.result.number _ c.open_marked-o.ensures.numbered c.if-o-ne0.true e.0 e.1
-
-pub returns : goal.returns
-returns c =
-    let s = c.args in
-    let cs = marked_checks s.k s.m s.l s.table.now s.marks in
-    answer_done cs 0 (opened_passes c.open_marked-o.ensures c.if-o-ne0.false) refl
-    (at-desk c.open_marked-o.ensures c.if-o-ne0.false (λ _ D. c.bytes_of_survivors-bytes.result ≡ survivors_bytes D) c.bytes_of_survivors-bytes.ensures)
+pub returns-in_err-desk : goal.returns-in_err-desk
+returns-in_err-desk c =
+    let e : c.from_residual.result ≡ Err c.in_err-desk.field-0.0 = search rules in
+    rw e (opened_stops _ c.in_err-desk.ensures [] refl)

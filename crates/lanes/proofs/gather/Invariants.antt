@@ -4,7 +4,4 @@ use Rattle.lanes.proofs.WordLaws.{Built}
 use Rattle.lanes.proofs.gather.Given as goal
 
 abbrev pub invariant-loop-t : goal.invariant-loop-t
-invariant-loop-t l = Built l.stripes (λ i. bit_at (part l.packets l.n i) l.q) l.t l.word
-
-abbrev pub decreases-loop-t : goal.decreases-loop-t
-decreases-loop-t l = l.t
+invariant-loop-t l = Built l.log.stripes (λ i. bit_at (part l.log.packets.now l.log.size i) l.q) l.t l.word

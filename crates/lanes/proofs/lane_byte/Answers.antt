@@ -25,9 +25,6 @@ overflow_add-byte-in-loop-j c =
     let f = built_fits _ 8 _ _ _ 1 c.loop-j-test.true (omega arith) c.loop-j.invariant (omega arith) in
     omega (arith, f)
 
-pub loop-j-smaller : goal.loop-j-smaller
-loop-j-smaller c = omega (arith, c.loop-j-test.true)
-
 pub loop-j-preserved : goal.loop-j-preserved
 loop-j-preserved c = built_more _ _ _ _ _ c.loop-j-test.true c.loop-j.invariant (bit_taken _ _).1 (bit_taken _ _).0
 

@@ -7,6 +7,3 @@ use Rattle.lanes.proofs.lane_byte.Given as goal
 
 abbrev pub invariant-loop-j : goal.invariant-loop-j
 invariant-loop-j l = Built 8 (λ i. bit (at l.lanes (l.first + i)) l.t) l.j l.byte
-
-abbrev pub decreases-loop-j : goal.decreases-loop-j
-decreases-loop-j l = l.j

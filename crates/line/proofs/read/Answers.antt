@@ -1,50 +1,28 @@
--- The line decides 18, and where there is one its numbers decide 1 and 2.
-use mathlib.Core.Path.{refl, sym, subst, ◌∙◌}
-use Rattle.table.specs.Checks.{Checked, size_checks}
-use Rattle.table.proofs.CheckLaws.{zero_checked}
-use Rattle.table.proofs.AnswerLaws.{answer_stops, answer_refused}
-use Rattle.line.specs.Promise.{line_checks, value_checks, sheet_checks}
-use Rattle.line.proofs.Lines.{size_checked, length_checked, values_decide}
+-- Where there is a line, its numbers decide 1 and 2.
+use mathlib.Core.Path.{◌≡◌, refl}
+use borrow.Author.Rules.{rules}
+use Rattle.std.specs.Prelude.{Err}
+use Rattle.table.specs.Refusals.{number_of}
+use Rattle.table.proofs.RefusalLaws.{numbered}
+use Rattle.table.proofs.AnswerLaws.{answer_refused, answer_done}
+use Rattle.line.specs.Promise.{Line, sheet_checks}
+use Rattle.line.proofs.Lines.{length_decides}
 use Rattle.line.proofs.read.Goals as goal
-use Rattle.line.proofs.read.Goals.{Else-size-ne0}
 
--- past the second test the size is right
-size-right : (c : Else-size-ne0) → Checked (size_checks c.parsed-line.result.k c.parsed-line.result.m) 0
-size-right c =
-    let r = c.parsed-line.result in
-    zero_checked (size_checks r.k r.m) c.size_number-size.result c.if-size-ne0.false c.size_number-size.ensures
-
-pub returns-then-line-ne0 : goal.returns-then-line-ne0
-returns-then-line-ne0 c =
+pub returns-in_err-check_length : goal.returns-in_err-check_length
+returns-in_err-check_length c =
     let s = c.args.input.now in
-    let p = c.parsed-line.ensures in
-    answer_stops (line_checks s) (value_checks s) _ _ p.numbered c.if-line-ne0.true refl (p.refused c.if-line-ne0.true)
-
-pub returns-then-size-ne0 : goal.returns-then-size-ne0
-returns-then-size-ne0 c =
-    let s = c.args.input.now in
-    let p = c.parsed-line.ensures in
-    let r = c.refused.ensures in
-    let n = c.size_number-size in
-    let z = c.if-line-ne0.false in
-    let decided = values_decide s _ n.result p.numbered z (size_checked s (p.done z) n.result n.ensures c.if-size-ne0.true) in
-    answer_refused (sheet_checks s) n.result _ decided c.if-size-ne0.true r.0 (r.1, r.2, r.3)
-
-pub returns-then-length-ne0 : goal.returns-then-length-ne0
-returns-then-length-ne0 c =
-    let s = c.args.input.now in
-    let p = c.parsed-line.ensures in
-    let r = c.refused-then-length-ne0.ensures in
-    let n = c.length_number-length in
-    let z = c.if-line-ne0.false in
-    let decided = values_decide s _ n.result p.numbered z (length_checked s (p.done z) n.result (size-right (goal.at.returns-then-length-ne0 c).Else-size-ne0) n.ensures) in
-    answer_refused (sheet_checks s) n.result _ decided c.if-length-ne0.true r.0 (r.1, r.2, r.3)
+    let r = c.in_err-check_length.field-0.0 in
+    let line = c.in_ok-line.line in
+    let x : Line s line.k line.m line.l = search rules in
+    let told = length_decides s x (number_of r) c.in_ok-check_size.ensures c.in_err-check_length.ensures in
+    let e : c.from_residual-in_err-check_length.result ≡ Err r = search rules in
+    rw e (answer_refused (sheet_checks s) (number_of r) (number_of r) told (numbered r) refl (refl, refl, refl))
 
 pub returns : goal.returns
 returns c =
     let s = c.args.input.now in
-    let p = c.parsed-line.ensures in
-    let n = c.length_number-length in
-    let z = c.if-line-ne0.false in
-    let decided = values_decide s _ n.result p.numbered z (length_checked s (p.done z) n.result (size-right (goal.at.returns c).Else-size-ne0) n.ensures) in
-    record { numbered = subst (Checked (sheet_checks s)) (c.if-length-ne0.false ∙ sym z) decided; refused = p.refused; done = p.done }
+    let line = c.in_ok-line.line in
+    let x : Line s line.k line.m line.l = search rules in
+    let told = length_decides s x 0 c.in_ok-check_size.ensures c.in_ok-check_length.ensures in
+    answer_done (sheet_checks s) 0 told refl x

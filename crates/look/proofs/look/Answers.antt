@@ -1,20 +1,23 @@
 -- The part that look at tells ends within its buffer. Assumes nothing.
+use mathlib.Core.Path.{ap}
 use native.Mathlib.Omega.{arith}
+use Rattle.look.specs.Places.{number_of}
 use Rattle.look.proofs.LookLaws.{look_ends, looked_rebuilt, looked_survivors}
 use Rattle.look.proofs.look.Goals as goal
 
 pub part-requires : goal.part-requires
 part-requires c =
     let s = c.args in
-    (look_ends s.k s.m s.l s.table.now s.marks s.source s.survivors.now s.rebuilt.now c.look_at-told.ensures).0
+    let e = look_ends s.k s.m s.l s.table.now s.marks s.source s.survivors.now s.rebuilt.now c.in_ok-place.ensures in
+    omega (arith, e.0, e.1 (λ z. omega (arith, ap number_of c.in-Survivors.is)))
 
-pub returns-then-told-eq-REBUILT : goal.returns-then-told-eq-REBUILT
-returns-then-told-eq-REBUILT c = looked_rebuilt c.look_at-told.ensures (omega arith) c.part.ensures
-
-pub part-requires-2 : goal.part-requires-2
-part-requires-2 c =
+pub part-requires-in-Rebuilt : goal.part-requires-in-Rebuilt
+part-requires-in-Rebuilt c =
     let s = c.args in
-    (look_ends s.k s.m s.l s.table.now s.marks s.source s.survivors.now s.rebuilt.now c.look_at-told.ensures).1 (omega arith)
+    omega (arith, (look_ends s.k s.m s.l s.table.now s.marks s.source s.survivors.now s.rebuilt.now c.in_ok-place.ensures).0)
 
-pub returns : goal.returns
-returns c = looked_survivors c.look_at-told.ensures (omega arith) c.part-2.ensures
+pub returns-in-Survivors : goal.returns-in-Survivors
+returns-in-Survivors c = looked_survivors c.in_ok-place.ensures (λ e. omega (arith, ap number_of c.in-Survivors.is)) c.part.ensures
+
+pub returns-in-Rebuilt : goal.returns-in-Rebuilt
+returns-in-Rebuilt c = looked_rebuilt c.in_ok-place.ensures (ap number_of c.in-Rebuilt.is) c.part-in-Rebuilt.ensures

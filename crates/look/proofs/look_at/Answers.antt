@@ -1,25 +1,36 @@
 -- Where the shape is refused there is no place; else what is left decides, over its desk. Assumes nothing.
-use mathlib.Core.Path.{◌≡◌, refl}
-use Prim.Native.Nat.{◌-◌}
-use Rattle.table.specs.Desk.{desk}
-use Rattle.table.specs.Checks.{shape_checks}
-use Rattle.table.proofs.CheckLaws.{numbered_by}
-use Rattle.checks.proofs.OpenLaws.{opened_stops, opened_goes}
-use Rattle.look.specs.Stages.{Stands, found_checks}
+use mathlib.Core.Path.{◌≡◌, refl, sym, subst}
+use borrow.Author.Rules.{rules}
+use Rattle.std.specs.Prelude.{Err}
+use Rattle.table.specs.Desks.{desk_of}
+use Rattle.table.specs.Refusals.{told}
+use Rattle.table.proofs.AnswerLaws.{answer_refused, answer_done}
+use Rattle.table.proofs.RefusalLaws.{numbered}
+use Rattle.look.specs.Stages.{buffers_checks}
+use Rattle.look.specs.Places.{number_of, buffer_told, start_told, length_told}
+use Rattle.look.specs.Promise.{LookedAt}
+use Rattle.look.proofs.LookLaws.{look_asked, look_goes}
 use Rattle.look.proofs.look_at.Goals as goal
 
-pub returns-then-o-ne0 : goal.returns-then-o-ne0
-returns-then-o-ne0 c =
+pub returns-in_err-check_asked : goal.returns-in_err-check_asked
+returns-in_err-check_asked c =
     let s = c.args in
-    let e = c.nowhere.ensures in
-    let rest = found_checks (desk s.k s.m s.l s.table.now s.marks) s.marks s.source s.survivors.now s.rebuilt.now in
-    opened_stops c.open_shape-o.ensures rest _ c.if-o-ne0.true e.0 (e.1, e.2, e.3)
+    let e = c.in_err-check_asked in
+    let r : c.from_residual-in_err-check_asked.result ≡ Err e.field-0.0 = search rules in
+    subst (λ r. LookedAt s.k s.m s.l s.table.now s.marks s.source s.survivors.now s.rebuilt.now (told r) (buffer_told r) (start_told r) (length_told r)) (sym r)
+    (look_asked c.in_ok-desk.ensures s.marks s.source s.survivors.now s.rebuilt.now e.field-0.0 e.ensures)
+
+pub returns-in_err-check_buffers : goal.returns-in_err-check_buffers
+returns-in_err-check_buffers c =
+    let s = c.args in
+    let e = c.in_err-check_buffers in
+    let r : c.from_residual-in_err-check_buffers.result ≡ Err e.field-0.0 = search rules in
+    subst (λ r. LookedAt s.k s.m s.l s.table.now s.marks s.source s.survivors.now s.rebuilt.now (told r) (buffer_told r) (start_told r) (length_told r)) (sym r)
+    (look_goes c.in_ok-desk.ensures s.marks s.source s.survivors.now s.rebuilt.now c.in_ok-check_asked.ensures c.put_marks.ensures _ 0 0 0
+    (answer_refused (buffers_checks (desk_of c.put_marks.new.self) s.survivors.now s.rebuilt.now) _ _ e.ensures (numbered e.field-0.0) refl (refl, refl, refl)))
 
 pub returns : goal.returns
 returns c =
     let s = c.args in
-    let cs = shape_checks s.k s.m s.l s.table.now in
-    let r = c.found.result in
-    opened_goes c.open_shape-o.ensures c.if-o-ne0.false (numbered_by cs refl)
-    (λ marks D. found_checks D marks s.source s.survivors.now s.rebuilt.now) (λ D. (r.buffer ≡ 0) × (r.start ≡ 0) × (r.length ≡ 0))
-    (λ D. Stands D (s.source - 1) r.buffer r.start × (r.length ≡ D.bytes)) r.number c.found.ensures
+    look_goes c.in_ok-desk.ensures s.marks s.source s.survivors.now s.rebuilt.now c.in_ok-check_asked.ensures c.put_marks.ensures 0 (number_of c.standing.result.buffer) _ _
+    (answer_done (buffers_checks (desk_of c.put_marks.new.self) s.survivors.now s.rebuilt.now) 0 c.in_ok-check_buffers.ensures refl c.standing.ensures)

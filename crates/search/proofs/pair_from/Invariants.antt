@@ -6,7 +6,7 @@ use Rattle.table.specs.Desk.{mark}
 use Rattle.search.proofs.pair_from.Given as goal
 
 abbrev pub invariant-loop-i : goal.invariant-loop-i
-invariant-loop-i l = (l.s.k ≤ l.i) × (l.i ≤ l.s.k + l.s.m) × (l.i < l.s.k + l.s.m → mark l.s.marks l.i ≡ true)
+invariant-loop-i l = (l.desk.k ≤ l.i) × (l.i ≤ l.desk.k + l.desk.m) × (l.i < l.desk.k + l.desk.m → mark l.desk.marks l.i ≡ true)
 
 abbrev pub decreases-loop-i : goal.decreases-loop-i
-decreases-loop-i l = l.s.k + l.s.m - l.i
+decreases-loop-i l = l.desk.k + l.desk.m - l.i

@@ -2,42 +2,37 @@
 use Prim.Native.Nat.{◌+◌, ◌<◌}
 use mathlib.Core.Path.{◌≡◌, ap, ◌∙◌}
 use native.Mathlib.Omega.{arith}
+use lib.Seq.{get_or-take}
 use Rattle.bits.specs.Sums.{at}
-use Rattle.table.specs.Table.{desk_of}
-use Rattle.search.proofs.SearchLaws.{leading_none, leading_to, leading_all}
+use Rattle.table.specs.Desks.{desk_of}
+use Rattle.search.proofs.SearchLaws.{leading_to, leading_all}
 use Rattle.search.proofs.row_source.Goals as goal
 
-pub loop-j-init : goal.loop-j-init
-loop-j-init c =
+pub lower-x-requires-clause-b_lt_k : goal.lower-x-requires-clause-b_lt_k
+lower-x-requires-clause-b_lt_k c =
+    let missing = c.args.missing.now in
+    let j = c.loop-column.column-index in
+    rw (get_or-take missing.count missing.columns j 0 (omega arith)) (c.requires.all_missing.inside j (omega arith))
+
+pub lower-x-requires-clause-b_value : goal.lower-x-requires-clause-b_value
+lower-x-requires-clause-b_value c =
+    let missing = c.args.missing.now in
+    let j = c.loop-column.column-index in
+    rw (get_or-take missing.count missing.columns j 0 (omega arith)) (c.requires.all_missing.gone j (omega arith))
+
+pub loop-column-preserved : goal.loop-column-preserved
+loop-column-preserved c =
     let s = c.args in
-    (omega arith, leading_none (desk_of s.s s.shifts.now) (at s.g.now) s.a (at s.columns.now 0) _ c.requires.all_missing.first)
-
-pub bounds-columns-j : goal.bounds-columns-j
-bounds-columns-j c = omega (arith, c.requires.all_missing.few, c.requires.within.k_high)
-
-pub overflow_cast-columns : goal.overflow_cast-columns
-overflow_cast-columns c = omega (arith, c.requires.all_missing.inside c.loop-j.j (omega arith), c.requires.within.k_high)
-
-pub lower-x-requires : goal.lower-x-requires
-lower-x-requires c =
-    record {
-      within = c.requires.within;
-      a_lt_m = c.requires.a_lt_m;
-      b_lt_k = c.requires.all_missing.inside c.loop-j.j (omega arith);
-      b_value = c.requires.all_missing.gone c.loop-j.j (omega arith);
-    }
-
-pub loop-j-preserved : goal.loop-j-preserved
-loop-j-preserved c =
-    let s = c.args in
-    let columns = s.columns.now in
-    let j = c.loop-j.j in
-    let below : j < s.count = omega arith in
+    let columns = s.missing.now.columns in
+    let j = c.loop-column.column-index in
+    let below : j < s.missing.now.count = omega arith in
     let passed = c.requires.all_missing.between j below in
-    (omega arith, leading_to (desk_of s.s s.shifts.now) (at s.g.now) s.a (at columns j + 1) (at columns (j + 1)) _ _ passed (c.lower-x.ensures c.loop-j.invariant.1))
+    let looked = rw (get_or-take s.missing.now.count columns j 0 below) at c.lower-x.ensures in
+    leading_to (desk_of s.desk.now) (at s.g.now) s.a (at columns j + 1) (at columns (j + 1)) _ _ passed (looked c.loop-column.invariant)
 
 pub returns : goal.returns
 returns c =
     let s = c.args in
-    let e : c.loop-j.j ≡ s.count = omega arith in
-    leading_all (desk_of s.s s.shifts.now) (at s.g.now) s.a (at s.columns.now c.loop-j.j) _ _ (ap (at s.columns.now) e ∙ c.requires.all_missing.last) c.loop-j.invariant.1
+    let j = c.loop-column.column-index in
+    let e : j ≡ s.missing.now.count = omega arith in
+    leading_all (desk_of s.desk.now) (at s.g.now) s.a (at s.missing.now.columns j) _ _ (ap (at s.missing.now.columns) e ∙ c.requires.all_missing.last) c.loop-column.invariant

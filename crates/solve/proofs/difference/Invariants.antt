@@ -1,14 +1,8 @@
 -- Row q is added to the rows after it and before row i, and these are divided. Assumes nothing.
-use mathlib.Core.Path.{◌≡◌}
-use Prim.Native.Nat.{◌-◌, ◌≤◌, ◌<◌}
-use lib.ListN.{length}
 use Rattle.bits.specs.Sums.{at}
 use Rattle.solve.specs.Solve.{Changed}
 use Rattle.solve.specs.EvenColumns.{Differenced}
 use Rattle.solve.proofs.difference.Given as goal
 
 abbrev pub invariant-loop-i : goal.invariant-loop-i
-invariant-loop-i l = (l.q < l.i) × (l.i ≤ l.n) × (length l.rows ≡ length l.initial.rows) × Changed (Differenced (at l.rises) l.q l.i l.n) l.place l.n l.initial.rows l.rows
-
-abbrev pub decreases-loop-i : goal.decreases-loop-i
-decreases-loop-i l = l.n - l.i
+invariant-loop-i l = Changed (Differenced (at l.rises) l.q l.i l.n) l.place l.n l.initial.rows l.rows

@@ -1,58 +1,34 @@
 -- The rows become divided differences; then after each turn one more is a coefficient. Assumes nothing.
-use native.Mathlib.Omega.{arith}
-use mathlib.Core.Path.{◌≡◌, refl}
-use Prim.Native.Nat.{◌-◌}
+use Rattle.std.proofs.Common.{◌≡◌, arith}
 use Rattle.bits.specs.Sums.{at}
 use Rattle.solve.specs.Solve.{placed}
-use Rattle.solve.proofs.PlaceLaws.{placed_still, changed_none, changed_then}
+use Rattle.solve.proofs.PlaceLaws.{changed_none, changed_then}
 use Rattle.solve.proofs.EvenColumnLaws.{expanded_from, expanded_next, interpolated_is}
 use Rattle.solve.proofs.solve_columns.Goals as goal
-
-pub overflow_sub-q : goal.overflow_sub-q
-overflow_sub-q c = omega (arith, c.requires.has_places.some)
 
 pub loop-q-init : goal.loop-q-init
 loop-q-init c =
     let start = c.difference_all.new.rows in
     let place = c.args.place.now in
     let n = c.args.n in
-    let some = c.requires.has_places.some in
-    (omega arith, refl, changed_none place n _ start (expanded_from (at c.args.rises.now) n c.requires.rising.climbs (placed place start) some))
-
-pub bounds-rises-q : goal.bounds-rises-q
-bounds-rises-q c = omega (arith, c.requires.rising.listed)
-
-pub overflow_cast-rises : goal.overflow_cast-rises
-overflow_cast-rises c = omega (arith, (c.shared_slice_known-in-loop-q-1.given (c.loop-q.q - 1)).fits)
-
-pub expand-requires : goal.expand-requires
-expand-requires c =
-    record {
-      has_places = placed_still c.args.place.now c.args.n c.args.rows.now c.loop-q.rows (omega (arith, c.loop-q.invariant.1)) c.requires.has_places;
-      e_le_max_shift = c.requires.rising.most (c.loop-q.q - 1) (omega arith);
-      q_lt_n = omega arith;
-    }
+    changed_none place n _ start (expanded_from (at c.args.rises.now) n c.requires.rising.climbs (placed place start) c.requires.has_places.some)
 
 pub loop-q-preserved : goal.loop-q-preserved
 loop-q-preserved c =
     let start = c.difference_all.new.rows in
     let place = c.args.place.now in
     let n = c.args.n in
-    let now = c.loop-q.rows in (
-      omega arith,
-      omega arith,
-      changed_then place n _ _ start now _ c.loop-q.invariant.2 c.expand.ensures _
-          (expanded_next (at c.args.rises.now) n c.requires.rising.climbs (placed place start) c.loop-q.q (placed place now) _ (omega arith) (omega arith)),
-    )
+    let now = c.loop-q.rows in
+    changed_then place n _ _ start now _ c.loop-q.invariant (rw c.from.ensures at c.expand.ensures) _
+    (expanded_next (at c.args.rises.now) n c.requires.rising.climbs (placed place start) c.loop-q.q (placed place now) _ (omega arith) (omega arith))
 
 pub returns : goal.returns
 returns c =
-    let first = c.difference_all in
-    let start = first.new.rows in
-    let rows = c.args.rows.now in
+    let start = c.difference_all.new.rows in
     let place = c.args.place.now in
+    let rows = c.args.rows.now in
     let n = c.args.n in
     let now = c.loop-q.rows in
     let done : c.loop-q.q ≡ 0 = omega arith in
-    let interpolated = interpolated_is (at c.args.rises.now) n c.requires.rising.climbs (placed place rows) (placed place start) (placed place now) in
-    changed_then place n _ _ rows start now first.ensures (rw done at c.loop-q.invariant.2) _ interpolated
+    changed_then place n _ _ rows start now c.difference_all.ensures (rw done at c.loop-q.invariant) _
+    (interpolated_is (at c.args.rises.now) n c.requires.rising.climbs (placed place rows) (placed place start) (placed place now))

@@ -1,62 +1,62 @@
 -- Refused with its shape, its marks or its lists' lengths a call tells no place; else the steps of its own desk are followed. Assumes nothing.
 use mathlib.Core.Path.{◌≡◌, refl}
-use mathlib.Core.Logic.{inl, inr}
 use mathlib.Core.List.{◌++◌}
 use native.Mathlib.Omega.{arith}
-use lib.ListN.{length}
 use Rattle.table.specs.Desk.{Desk, desk}
-use Rattle.table.specs.Table.{desk_of}
+use Rattle.table.specs.Desks.{desk_of}
 use Rattle.table.specs.Checks.{marked_checks}
+use Rattle.table.specs.Refusals.{number_of}
 use Rattle.table.proofs.CheckLaws.{numbered_by, below_by, checked_below}
 use Rattle.table.proofs.AnswerLaws.{answer_goes, answer_stops}
-use Rattle.checks.proofs.OpenLaws.{opened_stops, opened_passes, opened_goes}
+use Rattle.table.proofs.RefusalLaws.{numbered}
+use Rattle.checks.proofs.OpenLaws.{opened_goes}
 use Rattle.steps.specs.Steps.{Complete}
 use Rattle.steps.specs.Promise.{unequal_checks, follow_checks, PlaceTold}
-use Rattle.steps.proofs.StepLaws.{told_nowhere}
+use Rattle.steps.specs.Parts.{steps_number, steps_place}
+use Rattle.steps.proofs.StepLaws.{told_nowhere, refused_nowhere}
 use Rattle.steps.proofs.check_steps.Goals as goal
-use Rattle.steps.proofs.check_steps.Goals.{Else-parities-sources}
 
-pub returns-then-o-ne0 : goal.returns-then-o-ne0
-returns-then-o-ne0 c =
+pub returns-in_err-desk : goal.returns-in_err-desk
+returns-in_err-desk c =
     let x = c.args in
+    let ps = x.parities.now in
+    let ss = x.sources.now in
     let cs = marked_checks x.k x.m x.l x.table.now x.marks in
     let D = desk x.k x.m x.l x.table.now x.marks in
-    let O = c.open_marked-o in
-    let low = checked_below 23 cs O.result.number (omega arith) (below_by 23 cs refl) O.ensures.numbered in
-    opened_stops O.ensures (unequal_checks x.parities.now x.sources.now ++ follow_checks D x.parities.now x.sources.now) O.result.number c.if-o-ne0.true refl
-    (told_nowhere D x.parities.now x.sources.now O.result.number 0 low refl)
+    let O = c.in_err-desk.ensures in
+    let e = c.in_err-desk.field-0.0 in
+    let r = c.from_residual.result in
+    let w = refused_nowhere r e c.from_residual.ensures.1 in
+    let low = checked_below 23 cs (number_of e) (omega arith) (below_by 23 cs refl) O.numbered in
+    answer_stops cs (unequal_checks ps ss ++ follow_checks D ps ss) (number_of e) (steps_number r) O.numbered (numbered e) w.0
+    (told_nowhere D ps ss (steps_number r) (steps_place r) (omega (arith, low, w.0)) w.1)
 
-pub returns-then-parities-sources : goal.returns-then-parities-sources
-returns-then-parities-sources c =
+pub returns-in_err-check_as_long : goal.returns-in_err-check_as_long
+returns-in_err-check_as_long c =
     let x = c.args in
+    let ps = x.parities.now in
+    let ss = x.sources.now in
     let cs = marked_checks x.k x.m x.l x.table.now x.marks in
     let D = desk x.k x.m x.l x.table.now x.marks in
-    let lists = unequal_checks x.parities.now x.sources.now in
-    let steps = follow_checks D x.parities.now x.sources.now in
-    answer_goes cs (lists ++ steps) _ (numbered_by cs refl) (opened_passes c.open_marked-o.ensures c.if-o-ne0.false)
-    (answer_stops lists steps 22 _ (inl ((λ e. omega (arith, e, c.if-parities-sources.true)), refl)) (λ z. omega arith) (omega arith)
-    (told_nowhere D x.parities.now x.sources.now _ 0 (omega arith) refl))
-
--- the lists are as long as each other
-as_long : (c : Else-parities-sources) → let x = c.args in length x.parities.now ≡ length x.sources.now
-as_long c = omega (arith, c.if-parities-sources.false)
-
-pub follow-requires : goal.follow-requires
-follow-requires c =
-    record {
-      within = c.open_marked-o.ensures.within;
-      parities_len = as_long (goal.at.follow-requires c).Else-parities-sources;
-    }
+    let lists = unequal_checks ps ss in
+    let steps = follow_checks D ps ss in
+    let e = c.in_err-check_as_long.field-0.0 in
+    let r = c.from_residual-in_err-check_as_long.result in
+    let w = refused_nowhere r e c.from_residual-in_err-check_as_long.ensures.1 in
+    let low = checked_below 23 lists (number_of e) (omega arith) (below_by 23 lists refl) c.in_err-check_as_long.ensures in
+    answer_goes cs (lists ++ steps) (steps_number r) (numbered_by cs refl) c.in_ok-desk.ensures.numbered
+    (answer_stops lists steps (number_of e) (steps_number r) c.in_err-check_as_long.ensures (numbered e) w.0 (told_nowhere D ps ss (steps_number r) (steps_place r) (omega (arith, low, w.0)) w.1))
 
 pub returns : goal.returns
 returns c =
     let x = c.args in
     let ps = x.parities.now in
     let ss = x.sources.now in
-    let O = c.open_marked-o in
+    let O = c.in_ok-desk.ensures in
     let r = c.follow.result in
-    let E = desk_of O.result.shape O.result.table.shifts in
+    let cs = marked_checks x.k x.m x.l x.table.now x.marks in
     let lists = unequal_checks ps ss in
-    let checked = answer_goes lists (follow_checks E ps ss) r.number (numbered_by lists refl) (inr ((λ n. n (as_long (goal.at.returns c).Else-parities-sources)), refl)) c.follow.ensures in
-    opened_goes O.ensures c.if-o-ne0.false (numbered_by (marked_checks x.k x.m x.l x.table.now x.marks) refl) (λ _ (D : Desk). lists ++ follow_checks D ps ss)
-    (λ (D : Desk). PlaceTold D ps ss r.number r.place) (λ (D : Desk). Complete D ps ss × (r.place ≡ 0)) r.number checked
+    let D = desk_of c.in_ok-desk.desk in
+    let checked = answer_goes lists (follow_checks D ps ss) (steps_number r) (numbered_by lists refl) c.in_ok-check_as_long.ensures c.follow.ensures in
+    opened_goes (O.accepted _ refl) cs (numbered_by cs refl) O.numbered (λ _ (D : Desk). lists ++ follow_checks D ps ss)
+    (λ (D : Desk). PlaceTold D ps ss (steps_number r) (steps_place r)) (λ (D : Desk). Complete D ps ss × (steps_place r ≡ 0)) (steps_number r) checked

@@ -5,7 +5,7 @@ use Rattle.survivors.proofs.RestLaws.{SourcesBelow}
 use Rattle.survivors.proofs.add_sources.Given as goal
 
 abbrev pub invariant-loop-b : goal.invariant-loop-b
-invariant-loop-b l = Roomy l.rows × SourcesBelow l.s l.shifts l.a l.marks l.initial.rows l.b l.rows
+invariant-loop-b l = Roomy l.rows × SourcesBelow l.desk l.a l.marks l.initial.rows l.b l.rows
 
 abbrev pub decreases-loop-b : goal.decreases-loop-b
-decreases-loop-b l = l.s.k - l.b
+decreases-loop-b l = l.desk.k - l.b

@@ -1,69 +1,42 @@
 -- The shape and the marks are checked first, then the progress with the call's own numbers, and the step is made over the call's own desk. Assumes nothing.
 use mathlib.Core.Path.{◌≡◌, refl}
-use mathlib.Core.List.{◌++◌}
-use Prim.Native.Nat.{ℕ}
-use lib.ListN.{length}
-use Rattle.table.specs.Limits.{max_k}
-use Rattle.table.specs.Checks.{Checked, Answered, marked_checks, progress_checks}
-use Rattle.table.specs.declared.Shape.{Shape}
-use Rattle.table.proofs.CheckLaws.{numbered_by, zero_checked}
-use Rattle.table.proofs.AnswerLaws.{answer_goes, answer_refused, answer_done}
-use Rattle.checks.proofs.OpenLaws.{of_shape, opened_stops, opened_passes, at-desk}
-use Rattle.walk.specs.Walk.{Next}
-use Rattle.walk.proofs.Desks.{progress_fits}
 use borrow.Author.Rules.{rules}
+use Rattle.std.specs.Prelude.{Err}
+use Rattle.table.specs.Checks.{Checked, marked_checks, progress_checks}
+use Rattle.table.specs.Refusals.{number_of}
+use Rattle.table.proofs.CheckLaws.{numbered_by}
+use Rattle.table.proofs.AnswerLaws.{answer_goes, answer_refused, answer_done}
+use Rattle.table.proofs.RefusalLaws.{numbered}
+use Rattle.checks.proofs.OpenLaws.{opened_stops, of_numbers, at-desk}
+use Rattle.walk.specs.Walk.{Next}
+use Rattle.walk.specs.Parts.{parity_number, source_number}
 use Rattle.walk.proofs.next_step.Goals as goal
-use Rattle.walk.proofs.next_step.Goals.{After-progress_number-number, Else-o-ne0}
 
-pub returns-then-o-ne0 : goal.returns-then-o-ne0
-returns-then-o-ne0 c =
+pub returns-in_err-desk : goal.returns-in_err-desk
+returns-in_err-desk c =
     let x = c.args in
-    let O = c.open_marked-o in
-    let r = c.no_step.ensures in
-    opened_stops O.ensures (progress_checks x.k x.l x.marks x.progress) _ c.if-o-ne0.true r.0 (r.1, r.2, r.3)
+    let e : c.from_residual.result ≡ Err c.in_err-desk.field-0.0 = search rules in
+    rw e (opened_stops _ c.in_err-desk.ensures (progress_checks x.k x.l x.marks x.progress) (refl, refl, refl))
 
--- past the first test: the progress is checked with the call's own numbers, and what it says is the answer
-own-checked : (c : After-progress_number-number) → let x = c.args in Checked (progress_checks x.k x.l x.marks x.progress) c.progress_number-number.result
-own-checked c =
+pub returns-in_err-check_progress : goal.returns-in_err-check_progress
+returns-in_err-check_progress c =
     let x = c.args in
-    let O = c.open_marked-o in
-    of_shape x.k x.m x.l x.table.now (marked_checks x.k x.m x.l x.table.now x.marks) x.marks O.result
-    (λ (s : Shape). Checked (progress_checks s.k s.length s.marks x.progress) c.progress_number-number.result) O.ensures c.if-o-ne0.false c.progress_number-number.ensures
-
-rest-answers : (e : Else-o-ne0) (number : ℕ) {R D : Type 0} → let x = e.args in Answered (progress_checks x.k x.l x.marks x.progress) number R D
-    → Answered (marked_checks x.k x.m x.l x.table.now x.marks ++ progress_checks x.k x.l x.marks x.progress) number R D
-rest-answers e number A =
-    let x = e.args in
-    let O = e.open_marked-o in
+    let O = c.in_ok-desk.ensures in
+    let r = c.in_err-check_progress.field-0.0 in
+    let e : c.from_residual-in_err-check_progress.result ≡ Err r = search rules in
     let cs = marked_checks x.k x.m x.l x.table.now x.marks in
-    let passes = opened_passes O.ensures e.if-o-ne0.false in
-    answer_goes cs (progress_checks x.k x.l x.marks x.progress) number (numbered_by cs refl) passes A
-
-pub returns-then-number-ne0 : goal.returns-then-number-ne0
-returns-then-number-ne0 c =
-    let x = c.args in
-    let r = c.no_step-then-number-ne0.ensures in
-    rest-answers (goal.at.returns-then-number-ne0 c).Else-o-ne0 _
-    (answer_refused (progress_checks x.k x.l x.marks x.progress) c.progress_number-number.result _ (own-checked (goal.at.returns-then-number-ne0 c).After-progress_number-number)
-    c.if-number-ne0.true r.0 (r.1, r.2, r.3))
-
-pub advance-requires : goal.advance-requires
-advance-requires c =
-    let g = c.args.progress in
-    let s = c.open_marked-o.result.shape in
-    let size : length g ≡ max_k = search rules in
-    let accepted = zero_checked (progress_checks s.k s.length s.marks g) c.progress_number-number.result c.if-number-ne0.false c.progress_number-number.ensures in record {
-      within = c.open_marked-o.ensures.within;
-      fits = progress_fits s c.open_marked-o.result.table.shifts g size accepted;
-    }
+    let ds = progress_checks x.k x.l x.marks x.progress in
+    let own = of_numbers (O.accepted _ refl) (λ k m l marks. Checked (progress_checks k l marks x.progress) (number_of r)) c.in_err-check_progress.ensures in
+    rw e (answer_goes cs ds _ (numbered_by cs refl) O.numbered (answer_refused ds (number_of r) _ own (numbered r) refl (refl, refl, refl)))
 
 pub returns : goal.returns
 returns c =
     let x = c.args in
-    let O = c.open_marked-o in
-    let ds = progress_checks x.k x.l x.marks x.progress in
+    let O = c.in_ok-desk.ensures in
+    let S = O.accepted _ refl in
     let r = c.advance.result in
-    let next = at-desk O.ensures c.if-o-ne0.false
-    (λ _ D. Next D x.progress r.parity r.source r.progress) c.advance.ensures.1 in
-    rest-answers (goal.at.returns c).Else-o-ne0 _
-    (answer_done ds _ (zero_checked ds c.progress_number-number.result c.if-number-ne0.false (own-checked (goal.at.returns c).After-progress_number-number)) c.advance.ensures.0 next)
+    let cs = marked_checks x.k x.m x.l x.table.now x.marks in
+    let ds = progress_checks x.k x.l x.marks x.progress in
+    let own = of_numbers S (λ k m l marks. Checked (progress_checks k l marks x.progress) 0) c.in_ok-check_progress.ensures in
+    let next = at-desk S (λ _ D. Next D x.progress (parity_number r.pair) (source_number r.pair) r.progress) c.advance.ensures in
+    answer_goes cs ds 0 (numbered_by cs refl) O.numbered (answer_done ds 0 own refl next)

@@ -1,11 +1,10 @@
 -- What was cut and what is left to cut are the packet's blocks, in order; the last one is the one without M. Assumes nothing.
-use Prim.Native.Nat.{◌-◌}
 use lib.ListN.{length}
-use Rattle.chain.proofs.WritingLaws.{Cutting}
+use Rattle.chain.proofs.WritingLaws.{CuttingLeft}
 use Rattle.chain.proofs.writing.cut.Given as goal
 
-abbrev pub invariant-loop-at : goal.invariant-loop-at
-invariant-loop-at l = Cutting l.size l.packet l.initial.dest l.at l.end l.turn l.dest
+abbrev pub invariant-loop-left : goal.invariant-loop-left
+invariant-loop-left l = CuttingLeft l.size l.packet l.initial.dest l.left l.end l.turn l.dest
 
-abbrev pub decreases-loop-at : goal.decreases-loop-at
-decreases-loop-at l = length l.packet - l.at
+abbrev pub decreases-loop-left : goal.decreases-loop-left
+decreases-loop-left l = length l.left

@@ -2,8 +2,8 @@
 use Prim.Native.Nat.{◌+◌, ◌<◌}
 use mathlib.Core.Path.{ap, ◌∙◌}
 use native.Mathlib.Omega.{arith}
-use Rattle.table.specs.Table.{desk_of}
-use Rattle.table.proofs.Bounds.{within_bounds, shifted_fits}
+use Rattle.table.specs.Desks.{desk_of}
+use Rattle.table.proofs.Bounds.{within_bounds}
 use Rattle.rows.specs.Rows.{row_bits}
 use Rattle.walk.specs.Read.{put}
 use Rattle.survivors.specs.Remainders.{source_in}
@@ -14,33 +14,12 @@ use Rattle.decode.proofs.steps.take_bit.Goals.{Start}
 
 -- the bit stands within a row
 in_row : (c : Start) → c.args.g < row_bits
-in_row c = let W = within_bounds c.args.s c.args.shifts.now c.requires.within in omega (arith, c.requires.parity_lt_m.2, W.bits_high)
-
-pub left_bit-v-requires : goal.left_bit-v-requires
-left_bit-v-requires c =
-    let e = c.shift_of-e in
-    let s = c.args in
-    let at = c.requires.parity_lt_m in
-    let W = within_bounds s.s s.shifts.now c.requires.within in
-    let fits = shifted_fits (desk_of s.s s.shifts.now) W s.p.parity s.p.source at.0 at.1 in record {
-      within = c.requires.within;
-      all_missing = c.requires.all_missing;
-      a_lt_m = (at.0, omega (arith, fits, e.ensures.0, at.2, W.fits));
-      roomy = c.requires.roomy;
-    }
-
-pub flip-requires : goal.flip-requires
-flip-requires c =
-    record {
-      has_row = omega (arith, c.requires.parity_lt_m.1, c.requires.within.k_high, c.requires.roomy);
-      p_lt_row_bits = in_row (goal.at.flip-requires c).Start;
-      v_bound = omega (arith, c.left_bit-v.ensures);
-    }
+in_row c = let W = within_bounds c.args.desk.now in omega (arith, c.requires.parity_lt_m.2, W.bits_high)
 
 pub returns : goal.returns
 returns c =
     let s = c.args in
-    let D = desk_of s.s s.shifts.now in
+    let D = desk_of s.desk.now in
     let x = s.rows.now in
     let w = c.left_bit-v.result in
     let lw : w < 2 = omega (arith, c.left_bit-v.ensures) in

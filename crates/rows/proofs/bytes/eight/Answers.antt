@@ -1,4 +1,4 @@
--- Two halves make the number of eight bytes. Assumes nothing.
+-- The number of eight bytes has their bits. Assumes nothing.
 use Rattle.std.proofs.Common.{ap, ◌∙◌, arith}
 use Rattle.bits.specs.Bits.{bit_at, Bytes}
 use Rattle.rows.proofs.WordLaws.{bit-eight}

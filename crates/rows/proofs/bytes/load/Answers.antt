@@ -1,18 +1,10 @@
 -- From the row's first word on, bytes are added as they are. Assumes nothing.
-use Rattle.std.proofs.Common.{◌+◌, ◌*◌, ◌%◌, refl, ap, ◌∙◌, arith}
+use Rattle.std.proofs.Common.{◌+◌, ◌*◌, ◌%◌, ap, ◌∙◌, arith}
 use Rattle.bits.specs.Sums.{one_at}
 use Rattle.bits.specs.Bits.{bit_at}
 use Rattle.bits.proofs.UpLaws.{up_from}
 use Rattle.rows.specs.Rows.{row_in}
 use Rattle.rows.proofs.bytes.load.Goals as goal
-
-pub add_whole-requires : goal.add_whole-requires
-add_whole-requires c =
-    record {
-      has_row = c.requires.has_row;
-      first_bound = omega (arith, c.requires.src_bound);
-      whole_value = refl;
-    }
 
 pub returns : goal.returns
 returns c b p lp =

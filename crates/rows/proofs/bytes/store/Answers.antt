@@ -4,39 +4,26 @@ use Rattle.bits.specs.Sums.{at}
 use Rattle.bits.specs.Bits.{bit}
 use Rattle.rows.specs.Rows.{row_words, row_in, Stored}
 use Rattle.rows.proofs.RowLaws.{row_at}
-use Rattle.rows.proofs.StoreLaws.{stored_none, stored_more}
+use Rattle.rows.proofs.StoreLaws.{stored_more}
 use Rattle.rows.proofs.bytes.store.Goals as goal
-
-pub loop-c-init : goal.loop-c-init
-loop-c-init c =
-    let s = c.args in
-    (omega arith, stored_none s.from _ s.dst.now)
 
 pub loop-c-preserved : goal.loop-c-preserved
 loop-c-preserved c =
     let s = c.args in
     let i = c.loop-c.c in
     let eight : 8 * i + 8 ≡ 8 * (i + 1) = omega arith in
-    let rows = s.rows.now in (
-      omega arith,
-      subst (λ m. Stored s.from m (row_in rows s.a) s.dst.now c.put_word.new.dst) eight
-          (stored_more s.from (8 * i) 8 (row_in rows s.a) (bit (at rows (s.a * row_words + i))) s.dst.now c.loop-c.dst c.put_word.new.dst c.loop-c.invariant.1 c.put_word.ensures
-          (λ p lp. sym (row_at rows s.a i p (omega arith) (omega arith)) ∙ ap (row_in rows s.a) (omega arith))),
-    )
-
-pub returns-then-c-eq-ROW_WORDS : goal.returns-then-c-eq-ROW_WORDS
-returns-then-c-eq-ROW_WORDS c =
-    let s = c.args in
-    let all : 8 * c.loop-c.c ≡ s.n = omega (arith, c.loop-c.invariant.0) in
-    subst (λ m. Stored s.from m (row_in s.rows.now s.a) s.dst.now c.loop-c.dst) all c.loop-c.invariant.1
+    let rows = s.rows.now in
+    subst (λ m. Stored s.from m (row_in rows s.a) s.dst.now c.put_word.new.dst) eight
+    (stored_more s.from (8 * i) 8 (row_in rows s.a) (bit (at rows (s.a * row_words + i))) s.dst.now c.loop-c.dst c.put_word.new.dst c.loop-c.invariant c.put_word.ensures
+    (λ p lp. sym (row_at rows s.a i p (omega arith) (omega arith)) ∙ ap (row_in rows s.a) (omega arith)))
 
 pub returns : goal.returns
 returns c =
     let s = c.args in
-    let i = c.loop-c.c in
-    let whole : i ≡ s.n / 8 = omega (arith, c.loop-c.invariant.0) in
+    let i = s.n / 8 in
+    let whole : c.loop-c.c ≡ i = omega arith in
     let all : 8 * i + s.n % 8 ≡ s.n = omega arith in
     let rows = s.rows.now in
     subst (λ m. Stored s.from m (row_in rows s.a) s.dst.now c.put_tail.new.dst) all
-    (stored_more s.from (8 * i) (s.n % 8) (row_in rows s.a) (bit (at rows (s.a * row_words + i))) s.dst.now c.loop-c.dst c.put_tail.new.dst c.loop-c.invariant.1 c.put_tail.ensures
-    (λ p lp. sym (row_at rows s.a i p (omega arith) (omega arith)) ∙ ap (row_in rows s.a) (omega arith)))
+    (stored_more s.from (8 * i) (s.n % 8) (row_in rows s.a) (bit (at rows (s.a * row_words + i))) s.dst.now c.loop-c.dst c.put_tail.new.dst (rw whole at c.loop-c.invariant)
+    c.put_tail.ensures (λ p lp. sym (row_at rows s.a i p (omega arith) (omega arith)) ∙ ap (row_in rows s.a) (omega arith)))

@@ -1,10 +1,7 @@
 -- One byte after another, from the last, comes in below those that are there. Assumes nothing.
-use Rattle.std.proofs.Common.{◌-◌, ◌≤◌, length}
+use Rattle.std.proofs.Common.{◌≤◌}
 use Rattle.rows.proofs.WordLaws.{TailFrom}
 use Rattle.rows.proofs.bytes.tail.Given as goal
 
 abbrev pub invariant-loop-i : goal.invariant-loop-i
-invariant-loop-i l = (l.from ≤ l.i) × (l.i ≤ length l.src) × TailFrom l.src l.i l.x
-
-abbrev pub decreases-loop-i : goal.decreases-loop-i
-decreases-loop-i l = l.i - l.from
+invariant-loop-i l = (l.from ≤ l.i) × TailFrom l.src l.i l.x

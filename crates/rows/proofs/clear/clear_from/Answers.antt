@@ -1,16 +1,10 @@
 -- From the word on that bit n stands in; the words before it are as they were. Assumes nothing.
-use Rattle.std.proofs.Common.{◌≡◌, ℕ, ◌+◌, ◌*◌, ◌<◌, cond, ltb, sym, refl, ◌∙◌, ap₂, arith, length-set}
+use Rattle.std.proofs.Common.{◌≡◌, ℕ, ◌+◌, ◌*◌, ◌<◌, cond, ltb, sym, ◌∙◌, ap₂, arith, length-set}
 use Rattle.bits.specs.Sums.{at}
 use Rattle.bits.specs.Bits.{bit}
 use Rattle.rows.specs.Rows.{row_words, row_in}
-use Rattle.rows.proofs.RowLaws.{row_at, set_more, set_all}
-use Rattle.rows.proofs.ClearFromLaws.{cut_none}
+use Rattle.rows.proofs.RowLaws.{row_at, set_more}
 use Rattle.rows.proofs.clear.clear_from.Goals as goal
-
-pub loop-c-init : goal.loop-c-init
-loop-c-init c =
-    let s = c.args in
-    (omega arith, refl, cut_none s.a s.n _ s.rows.now (omega arith))
 
 pub loop-c-preserved : goal.loop-c-preserved
 loop-c-preserved c =
@@ -25,9 +19,3 @@ loop-c-preserved c =
       set_more s.a _ s.rows.now l.rows l.c _ (omega (arith, l.invariant.1)) (omega arith) l.invariant.2
           (λ t lt. c.kept.ensures t lt ∙ ap₂ (λ i x. cond (ltb i s.n) x 0) (from t) (same t lt)),
     )
-
-pub returns : goal.returns
-returns c =
-    let l = c.loop-c in
-    let s = c.args in
-    set_all s.a _ s.rows.now l.rows l.c (omega arith) l.invariant.2

@@ -1,13 +1,8 @@
 -- After each turn each word times 1 + z ^ d is what it was times 1 + z ^ e. Assumes nothing.
-use Rattle.std.proofs.Common.{◌+◌, refl, arith}
+use Rattle.std.proofs.Common.{◌+◌, arith}
 use Rattle.rows.specs.Words.{Twice}
-use Rattle.rows.proofs.DivideLaws.{Between, between_more, between_all, each_same, each_then, each_to}
+use Rattle.rows.proofs.DivideLaws.{Between, between_more, between_all, each_then, each_to}
 use Rattle.rows.proofs.divide.halve_words.Goals as goal
-
-pub loop-shift-init : goal.loop-shift-init
-loop-shift-init c =
-    let s = c.args in
-    (omega arith, refl, each_same s.a (Between s.d s.d) s.rows.now (λ x t lt. refl))
 
 pub loop-shift-preserved : goal.loop-shift-preserved
 loop-shift-preserved c =

@@ -4,9 +4,6 @@ use mathlib.Core.List.{[]}
 use native.Mathlib.Omega.{arith}
 use Rattle.sheet.proofs.pieces.header.Goals as goal
 
-pub returns-then-out-lt-ROOM : goal.returns-then-out-lt-ROOM
-returns-then-out-lt-ROOM c = record { short = λ _. (refl, refl); done = λ l. absurd (omega arith) }
-
 pub returns : goal.returns
 returns c =
     let p = c.put.ensures in

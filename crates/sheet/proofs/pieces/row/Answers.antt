@@ -5,74 +5,79 @@ use mathlib.Core.List.{List, [], ◌∷◌, ◌++◌}
 use Prim.Native.Nat.{ℕ, ◌+◌}
 use native.Mathlib.Omega.{arith}
 use lib.ListN.{length, take, length-append}
+use borrow.Author.Rules.{rules}
+use Rattle.std.specs.Prelude.{None}
 use Rattle.text.specs.Text.{space, line_feed, Front}
 use Rattle.text.specs.Numerals.{numeral}
+use Rattle.table.specs.Refusals.{told, given}
 use Rattle.table.proofs.CheckLaws.{sized}
 use Rattle.choices.specs.Promise.{Holding}
 use Rattle.choices.proofs.Successors.{held-take, held_rises}
 use Rattle.sheet.specs.Printing.{commaed, choice_text}
 use Rattle.sheet.specs.Steps.{WalkOf}
+use Rattle.sheet.specs.Promise.{RowOf}
 use Rattle.sheet.proofs.Rows.{row_of, line_parts}
 use Rattle.sheet.proofs.pieces.row.Goals as goal
-use Rattle.sheet.proofs.pieces.row.Goals.{Else-not-is_choice}
+use Rattle.sheet.proofs.pieces.row.Goals.{Else-not-is_choice, After-branch-steps, In_ok-steps}
 
 -- past the first test a choice is held
-held : (c : Else-not-is_choice) → (ids : List ℕ) × Holding c.args.k c.args.m c.args.c.ids ids
+held : (c : Else-not-is_choice) → (ids : List ℕ) × Holding c.args.line.k c.args.line.m c.args.c.ids ids
 held c = c.is_choice.ensures.so c.if-not-is_choice.false
+
+-- past the second its steps are counted
+line_of : (c : In_ok-steps) → RowOf c.args.line.k c.args.line.m c.args.line.l c.args.c.ids (choice_text (take c.args.line.k c.args.c.ids) c.in_ok-steps.steps)
+line_of c =
+    let s = c.args in
+    let counted : WalkOf s.line.k s.line.m s.line.l (take s.line.k s.c.ids) 0 c.in_ok-steps.steps = search rules in
+    row_of s.line.k s.line.m s.line.l s.c.ids (c.is_choice.ensures.so c.if-not-is_choice.false).1 counted
 
 pub returns-then-not-is_choice : goal.returns-then-not-is_choice
 returns-then-not-is_choice c = inr (inl (λ ids h. c.is_choice.ensures.not_so c.if-not-is_choice.true (ids, h)), refl, refl)
 
-pub walked-steps-requires : goal.walked-steps-requires
-walked-steps-requires c =
+pub count_steps-requires : goal.count_steps-requires
+count_steps-requires c =
     let s = c.args in
-    let h = held (goal.at.walked-steps-requires c).Else-not-is_choice in
-    (h.1.sized, held_rises s.k s.m s.c.ids h.1)
+    let h = held (goal.at.count_steps-requires c).Else-not-is_choice in
+    (h.1.sized, held_rises s.line.k s.line.m s.c.ids h.1)
 
-pub returns-then-steps-ne0 : goal.returns-then-steps-ne0
-returns-then-steps-ne0 c =
+pub returns-in_err-steps : goal.returns-in_err-steps
+returns-in_err-steps c =
     let s = c.args in
-    let w = c.walked-steps in
-    let h = held (goal.at.returns-then-steps-ne0 c).Else-not-is_choice in
-    let was = subst (Holding s.k s.m s.c.ids) (held-take s.k s.m s.c.ids h.1).0 h.1 in
-    inr (inr (take s.k s.c.ids, w.result.number, w.result.count, was, w.ensures, c.if-steps-ne0.true), refl, refl)
+    let w = c.count_steps in
+    let h = held (goal.at.returns-in_err-steps c).Else-not-is_choice in
+    let was = subst (Holding s.line.k s.line.m s.c.ids) (held-take s.line.k s.line.m s.c.ids h.1).0 h.1 in
+    let refused : told w.result ≡ 0 → ⊥ = search rules in
+    let e : c.from_residual.result ≡ None = search rules in
+    rw e (inr (inr (take s.line.k s.c.ids, told w.result, given w.result, was, w.ensures, refused), refl, refl))
 
 pub returns-then-out-lt-ROOM : goal.returns-then-out-lt-ROOM
 returns-then-out-lt-ROOM c =
-    let s = c.args in
-    let w = c.walked-steps in
-    let ids = take s.k s.c.ids in
-    let counted = subst (λ (n : ℕ). WalkOf s.k s.m s.l ids n w.result.count) c.if-steps-ne0.false w.ensures in
-    let line = row_of s.k s.m s.l s.c.ids (held (goal.at.returns-then-out-lt-ROOM c).Else-not-is_choice).1 counted in
-    inl (choice_text ids w.result.count, line, record { short = λ _. (refl, refl); done = λ l. absurd (omega arith) })
+    inl (_, line_of (goal.at.returns-then-out-lt-ROOM c).In_ok-steps, record { short = λ _. (refl, refl); done = λ l. absurd (omega arith) })
 
 pub put_ids-last-requires : goal.put_ids-last-requires
 put_ids-last-requires c =
     let s = c.args in
     let h = held (goal.at.put_ids-last-requires c).Else-not-is_choice in
-    let z = sized s.k s.m h.1.sized in
-    (z.k_low, z.k_high, held_rises s.k s.m s.c.ids h.1, omega arith)
+    let z = sized s.line.k s.line.m h.1.sized in
+    (z.k_low, z.k_high, held_rises s.line.k s.line.m s.c.ids h.1, omega arith)
 
 pub returns : goal.returns
 returns c =
     let s = c.args in
-    let w = c.walked-steps in
-    let ids = take s.k s.c.ids in
-    let text = choice_text ids w.result.count in
+    let ids = take s.line.k s.c.ids in
     let a = c.put_ids-last.ensures in
     let b = c.put_byte-count.ensures in
     let d = c.put_numeral-end.ensures in
     let e = c.put_byte.ensures in
-    let n = numeral w.result.count in
+    let n = numeral c.in_ok-steps.steps in
     let front = commaed ids ++ space ∷ [] in
     let lf : length front ≡ length (commaed ids) + 1 = length-append (commaed ids) (space ∷ []) in
     let second = b.1 s.out.now (commaed ids) a.0 a.2 in
     let third = d.2 s.out.now front (omega (arith, a.0, b.0)) second in
     let fourth = e.1 s.out.now (front ++ n) (omega (arith, a.0, b.0, d.0, length-append front n)) third in
-    let counted = subst (λ (n : ℕ). WalkOf s.k s.m s.l ids n w.result.count) c.if-steps-ne0.false w.ensures in
     inl (
-      text,
-      row_of s.k s.m s.l s.c.ids (held (goal.at.returns c).Else-not-is_choice).1 counted,
+      choice_text ids c.in_ok-steps.steps,
+      line_of (goal.at.returns c).In_ok-steps,
       record {
         short = λ l. absurd (omega (arith, c.if-out-lt-ROOM.false));
         done = λ _. (

@@ -1,15 +1,11 @@
 -- Each number passed stands after a comma.
-use Prim.Native.Nat.{◌+◌, ◌-◌, ◌*◌, ◌≤◌}
+use Prim.Native.Nat.{◌+◌, ◌*◌, ◌≤◌}
 use mathlib.Core.Path.{◌≡◌}
 use lib.ListN.{length, take}
-use Rattle.table.specs.Limits.{max_k}
 use Rattle.sheet.specs.Printing.{id_digits}
 use Rattle.sheet.proofs.Writings.{Put}
 use Rattle.sheet.proofs.writing.put_others.Given as goal
 
 abbrev pub invariant-loop-i : goal.invariant-loop-i
 invariant-loop-i l =
-    (1 ≤ l.i) × (l.i ≤ l.k) × (length l.ids ≡ max_k) × (length l.out ≡ length l.initial.out) × (l.end + 1 ≤ (id_digits + 1) * l.i) × Put l.initial.out l.start (take l.k l.ids) l.i l.out l.end
-
-abbrev pub decreases-loop-i : goal.decreases-loop-i
-decreases-loop-i l = l.k - l.i
+    (length l.out ≡ length l.initial.out) × (l.end + 1 ≤ (id_digits + 1) * l.i) × Put l.initial.out l.start (take l.k l.ids) l.i l.out l.end

@@ -1,28 +1,22 @@
 -- The packets that the trailing ones pass over are present, and the one they end at is missing. Assumes nothing.
-use Prim.Native.Nat.{◌-◌, ◌/◌, ◌^◌, ◌≤◌}
+use mathlib.Core.Path.{◌≡◌, subst}
+use mathlib.Core.Bool.{false}
+use Prim.Native.Nat.{◌+◌, ◌-◌, ◌/◌, ◌^◌, ◌≤◌}
 use native.Mathlib.Nat.{div-le_self}
 use native.Mathlib.Omega.{arith}
-use lib.Count.{trailing_le}
+use native.Mathlib.Decide.{dec_lt}
+use lib.Count.{count_trailing_zeros}
+use Rattle.table.specs.Table.{NextMark}
 use Rattle.table.proofs.MarkLaws.{missing_here, missing_none}
 use Rattle.table.proofs.packets.next_missing.Goals as goal
 
-pub overflow_sub-next : goal.overflow_sub-next
-overflow_sub-next c = omega (arith, div-le_self c.args.marks (2 ^ c.args.i))
-
-pub overflow_cast-next : goal.overflow_cast-next
-overflow_cast-next c = omega (arith, trailing_le 64 (18446744073709551615 - c.args.marks / 2 ^ c.args.i))
-
-pub overflow_add-next : goal.overflow_add-next
-overflow_add-next c = omega (arith, trailing_le 64 (18446744073709551615 - c.args.marks / 2 ^ c.args.i))
-
-pub returns-then-next-n : goal.returns-then-next-n
-returns-then-next-n c =
+pub returns : goal.returns
+returns c =
     let a = c.args in
     let l : a.marks / 2 ^ a.i ≤ 18446744073709551615 = omega (arith, div-le_self a.marks (2 ^ a.i)) in
-    missing_here a.marks a.i (18446744073709551615 - a.marks / 2 ^ a.i) (omega arith) a.n (omega arith) (omega arith)
-
-pub returns-else-next-n : goal.returns-else-next-n
-returns-else-next-n c =
-    let a = c.args in
-    let l : a.marks / 2 ^ a.i ≤ 18446744073709551615 = omega (arith, div-le_self a.marks (2 ^ a.i)) in
-    missing_none a.marks a.i (18446744073709551615 - a.marks / 2 ^ a.i) (omega arith) a.n (omega arith) (omega arith)
+    let rest = 18446744073709551615 - a.marks / 2 ^ a.i in
+    let next = a.i + count_trailing_zeros 64 rest in
+    elim (dec_lt next a.n) [
+      | yes h ↦ let e : next ≡ c.min.result = omega (arith, c.min.ensures) in subst (NextMark false a.marks a.i a.n) e (missing_here a.marks a.i rest (omega arith) a.n h (omega arith))
+      | no h ↦ let e : a.n ≡ c.min.result = omega (arith, c.min.ensures) in subst (NextMark false a.marks a.i a.n) e (missing_none a.marks a.i rest (omega arith) a.n (omega arith) (omega arith))
+    ]
