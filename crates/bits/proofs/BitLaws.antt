@@ -2,9 +2,9 @@
 use mathlib.Core.Path.{◌≡◌, refl, sym, ap, ap₂, ◌∙◌}
 use mathlib.Core.Logic.{◌⊎◌, inl, inr, ⊎_elim}
 use mathlib.Core.Bool.{true, false}
-use mathlib.Core.List.{List, [], ◌∷◌}
+use mathlib.Core.List.{List, [], ◌∷◌, ◌++◌}
 use Prim.Native.Nat.{ℕ, zero, suc, ◌+◌, ◌-◌, ◌*◌, ◌/◌, ◌%◌, ◌^◌, ◌≤◌, ◌<◌}
-use native.Mathlib.Nat.{add-sub_of_le, mul_assoc, zero-mul, zero-div, div-eq_of_lt, lt_of_lt_of_le, le_of_lt, le_trans, le_of_suc-le-suc, not-suc-le-zero}
+use native.Mathlib.Nat.{add-sub_of_le, mul_assoc, zero-add, zero-mul, zero-div, div-eq_of_lt, lt_of_lt_of_le, le_of_lt, le_trans, le_of_suc-le-suc, not-suc-le-zero}
 use native.Mathlib.Numerals.{add-one}
 use native.Mathlib.Omega.{arith}
 use native.Mathlib.Decide.{dec_lt}
@@ -13,7 +13,7 @@ use lib.Dec.{lit<}
 use lib.Bits.{bit_xor, bit_and, and_mask, xor_shr, xor_mod, xor_shifted, xor_zero_r, shifted_even}
 use lib.Pow.{pow_pos, pow-add, pow_mono, shl-shr, shr-shr, field, mod-mod-pow, shl_lt, shl_exact, high, low}
 use lib.ListN.{length, get_or, set, take, drop, replicate, length-take, get_or-eq_default}
-use lib.Seq.{get_or-set_same, get_or-set_other, get_or-take, get_or-drop, ext_get_or, drop-cons, drop-length}
+use lib.Seq.{get_or-set_same, get_or-set_other, get_or-take, get_or-drop, ext_get_or, drop-cons, drop-length, take-length, paste-suc}
 use Rattle.bits.specs.Sums.{one_at}
 use Rattle.bits.specs.Bits.{bit, bit_at, num, Bytes, ClearFrom, Tells, xor_of}
 use Rattle.bits.proofs.SumLaws.{one_at_same, one_at_other}
@@ -238,7 +238,7 @@ bit_at_flip xs p v h lv q =
     (bit_at_xor xs (p / 8) (v * 2 ^ (p % 8)) q (omega arith) (lt_of_lt_of_le (shl_lt 1 (p % 8) lv) (pow_mono {i = 1 + p % 8} {j = 8} (omega arith)))
     ∙ ap (λ (x : ℕ). (bit_at xs q + x) % 2) (ap (λ (x : ℕ). bit x q) there ∙ bit-digit v p q lv))
 
--- ---- a list that is clear from a bit on, or summed
+-- ---- a list that is clear from a bit on, copied to, or summed
 
 pub clear_from : (xs : List ℕ) (n i : ℕ) → get_or xs (n / 8) 0 / 2 ^ (n % 8) ≡ 0 → ((k : ℕ) → n / 8 < k → k < i → get_or xs k 0 ≡ 0) → length xs ≤ i → ClearFrom xs n
 unfolding bit_at
@@ -265,6 +265,14 @@ clear_first xs n h cl =
 pub clear_later : (xs : List ℕ) (n k : ℕ) → get_or xs k 0 < 2 ^ 8 → n / 8 < k → ClearFrom xs n → get_or xs k 0 ≡ 0
 clear_later xs n k h l cl =
     byte_ext (get_or xs k 0) 0 h (lit< tt) (λ j a. sym (bit_at-at xs k j a) ∙ cl (8 * k + j) (omega arith) ∙ sym (bit_zero j))
+
+-- one element more of s at the front of d
+pub front_more : (s d : List ℕ) (i : ℕ) → i < length s → i < length d → set (take i s ++ drop i d) i (get_or s i 0) ≡ take (i + 1) s ++ drop (i + 1) d
+front_more s d i ls ld = rw add-one (simp zero-add at (paste-suc d 0 s i 0 (omega arith) ls))
+
+-- all of s is at the front of d
+pub front-all : (s d : List ℕ) (i : ℕ) → i ≡ length s → take i s ++ drop i d ≡ s ++ drop (length s) d
+front-all s d i e = rw (e, take-length)
 
 -- one byte more is taken in
 pub xor_of_more : (x : ℕ) (xs : List ℕ) (i : ℕ) → i < length xs → bit_xor (bit_xor x (get_or xs i 0)) (xor_of (drop (i + 1) xs)) ≡ bit_xor x (xor_of (drop i xs))

@@ -26,7 +26,9 @@ pub fn copy_front(dst: &mut [u8], src: &[u8])
     requires { length src.now ≤ length dst.old }
     ensures { dst.new ≡ src.now ++ drop (length src.now) dst.old }
 {
-    dst[..src.len()].copy_from_slice(src);
+    for i in 0..src.len() {
+        dst[i] = src[i];
+    }
 }
 
 // Whether a and b hold the same bytes.

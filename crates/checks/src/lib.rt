@@ -13,16 +13,17 @@ ghost use Rattle.checks.specs.Opening.{Opens};
 
 use table::{Desk, Refusal, Table};
 
-// Whether every entry is a shift that is taken.
+// Whether every entry is a shift that is taken. The largest of them tells: without a way out the compiler looks at sixteen at once.
 fn low(table: &[u8]) -> bool
     ensures { Tells result ((i : ℕ) → at table.now i ≤ max_shift) }
 {
-    for x in table {
-        if Table::MAX_SHIFT < *x {
-            return false;
+    let mut most = 0;
+    for i in 0..table.len() {
+        if most < table[i] {
+            most = table[i];
         }
     }
-    true
+    most <= Table::MAX_SHIFT
 }
 
 // 1.
@@ -156,7 +157,8 @@ pub fn check_shape(k: u64, m: u64, l: u64, table: &[u8]) -> Result<(), Refusal>
     check_table(k, m, table)
 }
 
-// Checks 1, 2 and 3, and the desk of what they accept, with no packets at hand.
+// Checks 1, 2 and 3, and the desk of what they accept, with no packets at hand. Written into each call: a desk that is handed up in an answer is copied at every hand.
+#[inline(always)]
 pub fn open_shape(k: u64, m: u64, l: u64, table: &[u8]) -> Result<Desk, Refusal>
     ensures { Opens (shape_checks k m l table.now) k m l table.now 0 result }
 {
@@ -165,6 +167,7 @@ pub fn open_shape(k: u64, m: u64, l: u64, table: &[u8]) -> Result<Desk, Refusal>
 }
 
 // Checks 1, 2, 3, 6 and 7, and the desk of what they accept.
+#[inline(always)]
 pub fn open_marked(k: u64, m: u64, l: u64, table: &[u8], marks: u64) -> Result<Desk, Refusal>
     ensures { Opens (marked_checks k m l table.now marks) k m l table.now marks result }
 {

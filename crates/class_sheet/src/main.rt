@@ -41,7 +41,7 @@ fn print_sheet(rt: &impl Print, read: Result<Line, Refusal>, out: &mut [u8]) -> 
             print_piece(rt, pieces::header(out), out)?;
             print_rows(rt, line, out)
         }
-        Err(why) => print_piece(rt, pieces::refusal(why, out), out),
+        Err(why) => print_piece(rt, pieces::refusal(why.number(), out), out),
     }
 }
 

@@ -69,7 +69,7 @@ pub fn encode_packet(desk: &Desk, i: usize, sources: &[u8], out: &mut [u8])
     if i < k {
         let from = i * bytes;
         let end = from + bytes;
-        out.copy_from_slice(&sources[from..end]);
+        bits::copy_front(out, &sources[from..end]);
         return;
     }
     put_parity(desk, i - k, sources, out, 0, out.len());

@@ -21,7 +21,7 @@ fn all_parities(desk: &Desk, sources: &[u8], out: &mut [u8]) -> Result<(), Refus
     Ok(())
 }
 
-// All parities of the sources, in order. The desk is made where it is used: a copy of bytes that were just written would wait for them.
+// All parities of the sources, in order. The desk is laid where it is used.
 pub fn encode_all(
     k: u64,
     m: u64,
@@ -33,7 +33,8 @@ pub fn encode_all(
     ensures { EncodedAll k m l table.now sources.now out.old (told result) out.new }
 {
     checks::check_shape(k, m, l, table)?;
-    let desk = Desk::new(k, m, l, table);
+    let mut desk = Desk::least();
+    desk.lay(k, m, l, table);
     all_parities(&desk, sources, out)
 }
 
@@ -50,7 +51,9 @@ fn one_length(desk: &Desk, packet: u64) -> Result<u64, Refusal>
 pub fn packet_length(k: u64, m: u64, l: u64, table: &[u8], packet: u64) -> Result<u64, Refusal>
     ensures { PacketMeasured k m l table.now packet (told result) (given result) }
 {
-    let desk = checks::open_shape(k, m, l, table)?;
+    checks::check_shape(k, m, l, table)?;
+    let mut desk = Desk::least();
+    desk.lay(k, m, l, table);
     one_length(&desk, packet)
 }
 
@@ -58,7 +61,9 @@ pub fn packet_length(k: u64, m: u64, l: u64, table: &[u8], packet: u64) -> Resul
 pub fn parities_length(k: u64, m: u64, l: u64, table: &[u8]) -> Result<u64, Refusal>
     ensures { ParitiesMeasured k m l table.now (told result) (given result) }
 {
-    let desk = checks::open_shape(k, m, l, table)?;
+    checks::check_shape(k, m, l, table)?;
+    let mut desk = Desk::least();
+    desk.lay(k, m, l, table);
     Ok(desk.bytes_of_parities() as u64)
 }
 

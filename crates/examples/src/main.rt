@@ -342,15 +342,15 @@ fn looked<'a>(
     print!(rt; "look source {source}, marks 9: ")?;
     let place = look::look_at(2, 2, 1, &HOUSE, 9, source, survivors, rebuilt);
     let bytes = look::look(2, 2, 1, &HOUSE, 9, source, survivors, rebuilt);
-    match (place, bytes) {
-        (Ok(place), Ok(bytes)) => {
+    match place {
+        Ok(place) => {
             let buffer = match place.buffer {
                 Buffer::Survivors => "survivors",
                 Buffer::Rebuilt => "rebuilt",
             };
             println!(rt; "{buffer} at {}: {}", place.start, Hex(bytes))
         }
-        (Err(refusal), _) | (_, Err(refusal)) => println!(rt; "number {refusal}"),
+        Err(refusal) => println!(rt; "number {refusal}"),
     }
 }
 

@@ -80,12 +80,12 @@ module _ {k m : ℕ} {table : List ℕ} {t : Table} (H : Holds k m table t) wher
       omega (arith, there)
 
   -- the judge's test is growing differences
-  grows_judged : k ≤ max_k → m ≤ max_m → TableGrows t.k t.m t.shifts → Grows (desk k m 0 table 0)
+  pub grows_judged : k ≤ max_k → m ≤ max_m → TableGrows t.k t.m t.shifts → Grows (desk k m 0 table 0)
   grows_judged kh mh g =
       let s : Steps k m (laid_out k t.shifts) = steps-laid kh mh (subst (λ x. TableGrows x m t.shifts) H.k_is (subst (λ x. TableGrows t.k x t.shifts) H.m_is g)) in
       steps_grow k m (entry k table) (subst (Steps k m) H.laid s)
 
-  judged_grows : Grows (desk k m 0 table 0) → TableGrows t.k t.m t.shifts
+  pub judged_grows : Grows (desk k m 0 table 0) → TableGrows t.k t.m t.shifts
   judged_grows G =
       let s : Steps k m (laid_out k t.shifts) = subst (Steps k m) (sym H.laid) (λ a b la lb. G a (a + 1) b (b + 1) (omega arith) la (omega arith) lb) in
       subst (λ x. TableGrows t.k x t.shifts) (sym H.m_is) (subst (λ x. TableGrows x m t.shifts) (sym H.k_is) (laid-steps s))

@@ -49,7 +49,7 @@ module _ (input : List ℕ) {k m l : ℕ} (x : Line input k m l) where
       let e = one_line w.3 x in
       subst (λ a. Outside max_k a ⊎ Outside max_m m) e.0 (subst (λ b. Outside max_k w.0 ⊎ Outside max_m b) e.1 w.4)
 
-  length_checked : (n : ℕ) → Checked (size_checks k m) 0 → Checked (length_checks l) n → Checked (value_checks input) n
+  pub length_checked : (n : ℕ) → Checked (size_checks k m) 0 → Checked (length_checks l) n → Checked (value_checks input) n
   length_checked n (inl p) c = absurd (omega (arith, p.1))
   length_checked n (inr p) (inl q) = inr (λ w. p.0 (sides w), inl ((k, m, l, x, q.0), q.1))
   length_checked n (inr p) (inr q) = inr (λ w. p.0 (sides w), inr (λ w. q.0 (subst (Outside max_length) (one_line w.3 x).2 w.4), q.1))

@@ -1,13 +1,14 @@
--- Laws of a look: its checks, and that what it hands out ends within its buffer. Assumes nothing.
+-- Laws of a look: its checks, that what it hands out ends within its buffer, and that what is handed out is looked at. Assumes nothing.
 use mathlib.Core.Path.{◌≡◌, refl, subst}
 use mathlib.Core.Logic.{inl, inr}
 use mathlib.Core.List.{List}
 use Prim.Native.Nat.{ℕ, ◌+◌, ◌-◌, ◌≤◌, ◌<◌}
 use native.Mathlib.Omega.{arith}
+use native.Mathlib.Decide.{ℕ_discrete}
 use borrow.Author.Tests.{eq-eqb, ne_eqb}
 use denote.Ref.{Bor}
 use lib.ListN as lists
-use Rattle.std.specs.Prelude.{Ok}
+use Rattle.std.specs.Prelude.{Ok, Err}
 use Rattle.table.specs.Desk.{Desk, desk, sources_bytes, survivors_bytes}
 use Rattle.table.specs.Desks.{Remarked, desk_of}
 use Rattle.table.specs.Checks.{Checked, Answered, shape_checks, asked_checks, input_checks}
@@ -15,8 +16,8 @@ use Rattle.table.specs.Refusals.{number_of}
 use Rattle.table.specs.declared.desks.Desk as laid
 use Rattle.table.specs.declared.refusals.Refusal.{Refusal}
 use Rattle.table.proofs.CheckLaws.{numbered_by, passed, asked_one, exact}
-use Rattle.table.proofs.AnswerLaws.{answer_goes}
-use Rattle.table.proofs.RefusalLaws.{refused_stops}
+use Rattle.table.proofs.AnswerLaws.{answer_goes, answer_passes}
+use Rattle.table.proofs.RefusalLaws.{numbered, refused_stops}
 use Rattle.table.proofs.DeskLaws.{remarked_stands}
 use Rattle.table.proofs.PacketLaws.{source_packet_bytes, place_ends, place-among-sources}
 use Rattle.bits.specs.Sums.{count}
@@ -25,7 +26,7 @@ use Rattle.bits.proofs.SliceLaws.{part_in}
 use Rattle.checks.specs.Opening.{Opens}
 use Rattle.checks.proofs.OpenLaws.{of_numbers, desk_opened}
 use Rattle.look.specs.Stages.{Stands, buffers_checks, found_checks}
-use Rattle.look.specs.Promise.{LookedAt, Looked, PartOf}
+use Rattle.look.specs.Promise.{LookedAt, Looked, HandedOut, PartOf, look_checks}
 
 -- not 4: both buffers have the exact length
 pub buffers_exact : (D : Desk) (survivors rebuilt : List ℕ) → Checked (buffers_checks D survivors rebuilt) 0 → (lists.length survivors ≡ survivors_bytes D) × (lists.length rebuilt ≡ sources_bytes D)
@@ -52,28 +53,50 @@ stands_ends D i buffer start survivors rebuilt c l (inr x) =
     let e = buffers_exact D survivors rebuilt c in
     (omega (arith, part_in i D.k D.bytes (lists.length rebuilt) l (omega arith)), λ n. absurd (n x.1))
 
--- what a look hands out ends within its buffer
-module _ (k m l : ℕ) (table : List ℕ) (marks source : ℕ) (survivors rebuilt : List ℕ) {buffer start length : ℕ} where
-  pub look_ends : LookedAt k m l table marks source survivors rebuilt 0 buffer start length → EndsWithin survivors rebuilt buffer start length
-  look_ends t =
-      let D = desk k m l table marks in
-      let shape = shape_checks k m l table in
-      let asked = asked_checks k m marks k source in
-      let p = passed shape (found_checks D marks source survivors rebuilt) (numbered_by shape refl) t.numbered in
-      let q = passed asked (buffers_checks D survivors rebuilt) (numbered_by asked refl) p.1 in
-      let s = asked_one k m marks k source q.0 in
-      let r = stands_ends D (source - 1) buffer start survivors rebuilt q.1 (omega arith) (t.done refl).0 in
-      let n = (t.done refl).1 in
-      (omega (arith, r.0), λ b. omega (arith, r.1 b))
+-- what a look hands out ends within its buffer, refused or not
+module _ (k m l : ℕ) (table : List ℕ) (marks source : ℕ) (survivors rebuilt : List ℕ) {number buffer start length : ℕ} where
+  pub look_ends : LookedAt k m l table marks source survivors rebuilt number buffer start length → EndsWithin survivors rebuilt buffer start length
+  look_ends t = elim (ℕ_discrete number 0) [
+    | no n ↦ let z = t.refused n in (omega arith, λ _. omega arith)
+    | yes e ↦
+        let D = desk k m l table marks in
+        let shape = shape_checks k m l table in
+        let asked = asked_checks k m marks k source in
+        let p = passed shape (found_checks D marks source survivors rebuilt) (numbered_by shape refl) (answer_passes (look_checks k m l table marks source survivors rebuilt) _ e t) in
+        let q = passed asked (buffers_checks D survivors rebuilt) (numbered_by asked refl) p.1 in
+        let s = asked_one k m marks k source q.0 in
+        let r = stands_ends D (source - 1) buffer start survivors rebuilt q.1 (omega arith) (t.done e).0 in
+        let n = (t.done e).1 in
+        (omega (arith, r.0), λ b. omega (arith, r.1 b))
+  ]
 
 -- the part that is told, of the one buffer or of the other
+module _ {k m l : ℕ} {table : List ℕ} {marks source : ℕ} {survivors rebuilt r : Bor (List ℕ)} {number buffer start length : ℕ}
+    (told : LookedAt k m l table marks source survivors.now rebuilt.now number buffer start length) where
+  pub looked_rebuilt : buffer ≡ 2 → PartOf rebuilt start length r → Looked k m l table marks source survivors rebuilt r
+  looked_rebuilt e p = record { number = number; buffer = buffer; start = start; length = length; told = told; part = rw (eq-eqb buffer 2 e) p }
+
+  pub looked_survivors : (buffer ≡ 2 → ⊥) → PartOf survivors start length r → Looked k m l table marks source survivors rebuilt r
+  looked_survivors n p = record { number = number; buffer = buffer; start = start; length = length; told = told; part = rw (ne_eqb buffer 2 n) p }
+
+-- the same of what is handed out, which is not refused
 module _ {k m l : ℕ} {table : List ℕ} {marks source : ℕ} {survivors rebuilt r : Bor (List ℕ)} {buffer start length : ℕ}
     (told : LookedAt k m l table marks source survivors.now rebuilt.now 0 buffer start length) where
-  pub looked_rebuilt : buffer ≡ 2 → PartOf rebuilt start length r → Looked k m l table marks source survivors rebuilt (Ok r)
-  looked_rebuilt e p = record { buffer = buffer; start = start; length = length; told = told; part = rw (eq-eqb buffer 2 e) p }
+  pub handed_rebuilt : buffer ≡ 2 → PartOf rebuilt start length r → HandedOut k m l table marks source survivors rebuilt (Ok r)
+  handed_rebuilt e p = record { buffer = buffer; start = start; length = length; told = told; part = rw (eq-eqb buffer 2 e) p }
 
-  pub looked_survivors : (buffer ≡ 2 → ⊥) → PartOf survivors start length r → Looked k m l table marks source survivors rebuilt (Ok r)
-  looked_survivors n p = record { buffer = buffer; start = start; length = length; told = told; part = rw (ne_eqb buffer 2 n) p }
+  pub handed_survivors : (buffer ≡ 2 → ⊥) → PartOf survivors start length r → HandedOut k m l table marks source survivors rebuilt (Ok r)
+  handed_survivors n p = record { buffer = buffer; start = start; length = length; told = told; part = rw (ne_eqb buffer 2 n) p }
+
+-- what is handed out is looked at; refused, so is the empty part at the survivors' start
+module _ {k m l : ℕ} {table : List ℕ} {marks source : ℕ} {survivors rebuilt r : Bor (List ℕ)} where
+  pub handed_looked : HandedOut k m l table marks source survivors rebuilt (Ok r) → Looked k m l table marks source survivors rebuilt r
+  handed_looked h = record { number = 0; buffer = h.buffer; start = h.start; length = h.length; told = h.told; part = h.part }
+
+  pub refused_looked : {e : Refusal} → HandedOut k m l table marks source survivors rebuilt (Err e) → PartOf survivors 0 0 r → Looked k m l table marks source survivors rebuilt r
+  refused_looked {e} h p =
+      let z = h.told.refused (numbered e) in
+      looked_survivors h.told (λ two. omega (arith, two, z.0)) (rw (z.1, z.2) p)
 
 -- the stages of a look whose shape is accepted, over the desk that it opened
 module _ {k m l : ℕ} {table : List ℕ} {d : laid.Desk} (O : Opens (shape_checks k m l table) k m l table 0 (Ok d)) (marks source : ℕ) (survivors rebuilt : List ℕ) where

@@ -13,7 +13,8 @@ use Rattle.table.specs.Refusals.{told}
 use Rattle.table.specs.declared.refusals.Refusal.{Refusal}
 use Rattle.table.proofs.AnswerLaws.{answers_agree}
 use Rattle.look.specs.Stages.{Stands}
-use Rattle.look.specs.Promise.{LookedAt, Looked, PartOf, look_checks}
+use Rattle.look.specs.Promise.{LookedAt, Looked, HandedOut, PartOf, look_checks}
+use Rattle.look.proofs.LookLaws.{handed_looked}
 
 stands_once : (D : Desk) (i b b' s s' : ℕ) → Stands D i b s → Stands D i b' s' → (b ≡ b') × (s ≡ s')
 stands_once D i b b' s s' (inl x) (inl y) = (x.1 ∙ sym y.1, x.2 ∙ sym y.2)
@@ -37,12 +38,17 @@ module _ (k m l : ℕ) (table : List ℕ) (marks source : ℕ) where
 
   -- no two parts: both point at the same byte of the same buffer, and show the same bytes
   pub one_part : (survivors rebuilt r r' : Bor (List ℕ))
-      → Looked k m l table marks source survivors rebuilt (Ok r) → Looked k m l table marks source survivors rebuilt (Ok r') → (r.ref_ptr ≡ r'.ref_ptr) × (r.now ≡ r'.now)
+      → Looked k m l table marks source survivors rebuilt r → Looked k m l table marks source survivors rebuilt r' → (r.ref_ptr ≡ r'.ref_ptr) × (r.now ≡ r'.now)
   one_part survivors rebuilt r r' x y =
       let e = one_place survivors.now rebuilt.now x.told y.told in
       part_once (pick (eqb x.buffer 2) rebuilt survivors) x.start x.length r r' x.part (rw (e.1, e.2, e.3) y.part)
 
+  -- the same of what is handed out
+  pub one_part_by_hand_out : (survivors rebuilt r r' : Bor (List ℕ))
+      → HandedOut k m l table marks source survivors rebuilt (Ok r) → HandedOut k m l table marks source survivors rebuilt (Ok r') → (r.ref_ptr ≡ r'.ref_ptr) × (r.now ≡ r'.now)
+  one_part_by_hand_out survivors rebuilt r r' x y = one_part survivors rebuilt r r' (handed_looked x) (handed_looked y)
+
   -- and one number, refused or not
   pub one_number : (survivors rebuilt : Bor (List ℕ)) (r r' : Result (Bor (List ℕ)) Refusal)
-      → Looked k m l table marks source survivors rebuilt r → Looked k m l table marks source survivors rebuilt r' → told r ≡ told r'
+      → HandedOut k m l table marks source survivors rebuilt r → HandedOut k m l table marks source survivors rebuilt r' → told r ≡ told r'
   one_number survivors rebuilt r r' x y = (one_place survivors.now rebuilt.now x.told y.told).0

@@ -17,7 +17,8 @@ use Rattle.table.proofs.AnswerLaws.{answer_done}
 use Rattle.table.proofs.ShapeLaws.{marked_parts}
 use Rattle.table.proofs.Taken.{low_b, inside_b, size_b, table_b, shape_b, taken_b, shape_taken, taken_checked}
 use Rattle.look.specs.Stages.{buffers_checks, found_checks}
-use Rattle.look.specs.Promise.{LookedAt, Looked, PartOf, look_checks}
+use Rattle.look.specs.Promise.{LookedAt, Looked, HandedOut, PartOf, look_checks}
+use Rattle.look.proofs.LookLaws.{handed_looked}
 use Rattle.look.proofs.OneAnswer.{one_place}
 
 -- the house table of 2 2
@@ -116,34 +117,59 @@ no_marks_cut source survivors rebuilt n x = n (refused-six 0x10009 source surviv
 
 module _ (survivors rebuilt r : Bor (List ℕ)) (lent : Lent survivors.now rebuilt.now) where
   -- packets 1 and 4 at hand: source 2 is handed out as the part of the rebuilt sources at byte 1
-  handed_out : Looked 2 2 1 house 9 2 survivors rebuilt (Ok r) → PartOf rebuilt 1 1 r
+  handed_out : Looked 2 2 1 house 9 2 survivors rebuilt r → PartOf rebuilt 1 1 r
   handed_out x =
       let e = one_place 2 2 1 house 9 2 survivors.now rebuilt.now x.told (second_stands survivors.now rebuilt.now lent) in
       rw (e.1, e.2, e.3) at x.part
 
   -- a copy, which lies elsewhere
-  pub no_copy_handed_out : (r.ref_ptr.0 ≡ rebuilt.ref_ptr.0 → ⊥) → Looked 2 2 1 house 9 2 survivors rebuilt (Ok r) → ⊥
+  pub no_copy_handed_out : (r.ref_ptr.0 ≡ rebuilt.ref_ptr.0 → ⊥) → Looked 2 2 1 house 9 2 survivors rebuilt r → ⊥
   no_copy_handed_out apart x = apart (handed_out x).block
 
   -- a part of the survivors, which lie in another buffer
-  pub no_part_of_the_survivors : (survivors.ref_ptr.0 ≡ rebuilt.ref_ptr.0 → ⊥) → r.ref_ptr.0 ≡ survivors.ref_ptr.0 → Looked 2 2 1 house 9 2 survivors rebuilt (Ok r) → ⊥
+  pub no_part_of_the_survivors : (survivors.ref_ptr.0 ≡ rebuilt.ref_ptr.0 → ⊥) → r.ref_ptr.0 ≡ survivors.ref_ptr.0 → Looked 2 2 1 house 9 2 survivors rebuilt r → ⊥
   no_part_of_the_survivors apart e x = apart (sym e ∙ (handed_out x).block)
 
   -- a byte of the survivors that is not the source's
-  pub no_byte_of_the_survivors : (i : ℕ) → (at survivors.now i ≡ at rebuilt.now 1 → ⊥) → at r.now 0 ≡ at survivors.now i → Looked 2 2 1 house 9 2 survivors rebuilt (Ok r) → ⊥
+  pub no_byte_of_the_survivors : (i : ℕ) → (at survivors.now i ≡ at rebuilt.now 1 → ⊥) → at r.now 0 ≡ at survivors.now i → Looked 2 2 1 house 9 2 survivors rebuilt r → ⊥
   no_byte_of_the_survivors i differs e x =
       differs (sym e ∙ ap (λ l. at l 0) (handed_out x).bytes ∙ get_or-take 1 (lists.drop 1 rebuilt.now) 0 0 (omega arith) ∙ get_or-drop 1 rebuilt.now 0 0)
 
   -- the part at the start of the rebuilt sources
-  pub no_part_at_the_start : r.ref_ptr.1 ≡ rebuilt.ref_ptr.1 → Looked 2 2 1 house 9 2 survivors rebuilt (Ok r) → ⊥
+  pub no_part_at_the_start : r.ref_ptr.1 ≡ rebuilt.ref_ptr.1 → Looked 2 2 1 house 9 2 survivors rebuilt r → ⊥
   no_part_at_the_start e x = omega (arith, e, (handed_out x).place)
 
   -- all of the rebuilt sources, or the empty part
-  pub no_part_of_another_length : (lists.length r.now ≡ 1 → ⊥) → Looked 2 2 1 house 9 2 survivors rebuilt (Ok r) → ⊥
+  pub no_part_of_another_length : (lists.length r.now ≡ 1 → ⊥) → Looked 2 2 1 house 9 2 survivors rebuilt r → ⊥
   no_part_of_another_length n x = n (ap lists.length (handed_out x).bytes ∙ simp (lists.length-take, lists.length-drop) (omega (arith, lent.1)))
 
 -- a source handed out where there is none of that number
-pub no_part_when_refused : (survivors rebuilt r : Bor (List ℕ)) → Looked 2 2 1 house 9 3 survivors rebuilt (Ok r) → ⊥
-no_part_when_refused survivors rebuilt r x =
+pub no_part_when_refused : (survivors rebuilt r : Bor (List ℕ)) → (lists.length r.now ≡ 0 → ⊥) → Looked 2 2 1 house 9 3 survivors rebuilt r → ⊥
+no_part_when_refused survivors rebuilt r n x =
+    let six = refused-six 9 3 survivors.now rebuilt.now (inr (inr (omega arith))) x.told in
+    let none = x.told.refused (λ z. omega (arith, six, z)) in
+    n (ap lists.length (rw none.2 at x.part.bytes))
+
+-- ---- hand_out
+
+module _ (survivors rebuilt r : Bor (List ℕ)) (lent : Lent survivors.now rebuilt.now) where
+  pub no_copy_by_hand_out : (r.ref_ptr.0 ≡ rebuilt.ref_ptr.0 → ⊥) → HandedOut 2 2 1 house 9 2 survivors rebuilt (Ok r) → ⊥
+  no_copy_by_hand_out apart x = no_copy_handed_out survivors rebuilt r lent apart (handed_looked x)
+
+  pub no_part_of_the_survivors_by_hand_out : (survivors.ref_ptr.0 ≡ rebuilt.ref_ptr.0 → ⊥) → r.ref_ptr.0 ≡ survivors.ref_ptr.0 → HandedOut 2 2 1 house 9 2 survivors rebuilt (Ok r) → ⊥
+  no_part_of_the_survivors_by_hand_out apart e x = no_part_of_the_survivors survivors rebuilt r lent apart e (handed_looked x)
+
+  pub no_byte_of_the_survivors_by_hand_out : (i : ℕ) → (at survivors.now i ≡ at rebuilt.now 1 → ⊥) → at r.now 0 ≡ at survivors.now i → HandedOut 2 2 1 house 9 2 survivors rebuilt (Ok r) → ⊥
+  no_byte_of_the_survivors_by_hand_out i differs e x = no_byte_of_the_survivors survivors rebuilt r lent i differs e (handed_looked x)
+
+  pub no_part_at_the_start_by_hand_out : r.ref_ptr.1 ≡ rebuilt.ref_ptr.1 → HandedOut 2 2 1 house 9 2 survivors rebuilt (Ok r) → ⊥
+  no_part_at_the_start_by_hand_out e x = no_part_at_the_start survivors rebuilt r lent e (handed_looked x)
+
+  pub no_part_of_another_length_by_hand_out : (lists.length r.now ≡ 1 → ⊥) → HandedOut 2 2 1 house 9 2 survivors rebuilt (Ok r) → ⊥
+  no_part_of_another_length_by_hand_out n x = no_part_of_another_length survivors rebuilt r lent n (handed_looked x)
+
+-- refused, not even the empty part
+pub no_part_when_refused_by_hand_out : (survivors rebuilt r : Bor (List ℕ)) → HandedOut 2 2 1 house 9 3 survivors rebuilt (Ok r) → ⊥
+no_part_when_refused_by_hand_out survivors rebuilt r x =
     let six = refused-six 9 3 survivors.now rebuilt.now (inr (inr (omega arith))) x.told in
     omega (arith, six)

@@ -1,4 +1,4 @@
--- What the calls look and look at promise.
+-- What the calls look, hand out and look at promise.
 use Rattle.std.specs.Prelude.{◌≡◌, Result, IfOk, List, ◌++◌, ℕ, ◌+◌, ◌-◌, eqb}
 use Rattle.std.specs.Borrow.{Bor}
 use Rattle.bits.specs.Sums.{pick}
@@ -27,8 +27,17 @@ pub record PartOf (s : Bor (List ℕ)) (a n : ℕ) (r : Bor (List ℕ)) : Type 0
   pub place : r.ref_ptr.1 ≡ s.ref_ptr.1 + a
   pub bytes : r.now ≡ slice s.now a n
 
--- Look: the number that look at tells; not refused, the part that it tells, of the rebuilt sources where the buffer is 2, else of the survivors.
-pub record Looked (k m l : ℕ) (table : List ℕ) (marks source : ℕ) (survivors rebuilt : Bor (List ℕ)) (r : Result (Bor (List ℕ)) Refusal) : Type 0 where
+-- Look: the part that look at tells, of the rebuilt sources where the buffer is 2, else of the survivors; so refused, the empty part at their start.
+pub record Looked (k m l : ℕ) (table : List ℕ) (marks source : ℕ) (survivors rebuilt r : Bor (List ℕ)) : Type 0 where
+  pub number : ℕ
+  pub buffer : ℕ
+  pub start : ℕ
+  pub length : ℕ
+  pub told : LookedAt k m l table marks source survivors.now rebuilt.now number buffer start length
+  pub part : PartOf (pick (eqb buffer 2) rebuilt survivors) start length r
+
+-- Hand out: the number that look at tells; not refused, the part that it tells, of the rebuilt sources where the buffer is 2, else of the survivors.
+pub record HandedOut (k m l : ℕ) (table : List ℕ) (marks source : ℕ) (survivors rebuilt : Bor (List ℕ)) (r : Result (Bor (List ℕ)) Refusal) : Type 0 where
   pub buffer : ℕ
   pub start : ℕ
   pub length : ℕ

@@ -10,7 +10,7 @@ ghost use Rattle.table.specs.Checks.{Checked};
 ghost use Rattle.table.specs.Refusals.{told};
 ghost use Rattle.look.specs.Stages.{Stands, buffers_checks};
 ghost use Rattle.look.specs.Places.{number_of, buffer_told, start_told, length_told};
-ghost use Rattle.look.specs.Promise.{LookedAt, Looked, PartOf};
+ghost use Rattle.look.specs.Promise.{LookedAt, Looked, HandedOut, PartOf};
 
 use table::{Desk, Refusal};
 
@@ -83,7 +83,9 @@ pub fn look_at(
 ) -> Result<Place, Refusal>
     ensures { LookedAt k m l table.now marks source survivors.now rebuilt.now (told result) (buffer_told result) (start_told result) (length_told result) }
 {
-    let mut desk = checks::open_shape(k, m, l, table)?;
+    checks::check_shape(k, m, l, table)?;
+    let mut desk = Desk::least();
+    desk.lay(k, m, l, table);
     checks::check_asked(desk.k, desk.m, marks, desk.k, source)?;
     desk.put_marks(marks);
     check_buffers(&desk, survivors, rebuilt)?;
@@ -100,7 +102,7 @@ fn part<'a>(s: &'a [u8], a: usize, n: usize) -> &'a [u8]
 }
 
 // The source of the given number, from 1: a part of the survivors where its card is present, else of the rebuilt sources.
-pub fn look<'a>(
+pub fn hand_out<'a>(
     k: u64,
     m: u64,
     l: u64,
@@ -110,7 +112,7 @@ pub fn look<'a>(
     survivors: &'a [u8],
     rebuilt: &'a [u8],
 ) -> Result<&'a [u8], Refusal>
-    ensures { Looked k m l table.now marks source survivors.entry rebuilt.entry result }
+    ensures { HandedOut k m l table.now marks source survivors.entry rebuilt.entry result }
 {
     let place = look_at(k, m, l, table, marks, source, survivors, rebuilt)?;
     let start = place.start as usize;
@@ -118,5 +120,24 @@ pub fn look<'a>(
     match place.buffer {
         Buffer::Survivors => Ok(part(survivors, start, n)),
         Buffer::Rebuilt => Ok(part(rebuilt, start, n)),
+    }
+}
+
+// The source of the given number, from 1: a part of the survivors where its card is present, else of the rebuilt sources; empty where refused.
+pub fn look<'a>(
+    k: u64,
+    m: u64,
+    l: u64,
+    table: &[u8],
+    marks: u64,
+    source: u64,
+    survivors: &'a [u8],
+    rebuilt: &'a [u8],
+) -> &'a [u8]
+    ensures { Looked k m l table.now marks source survivors.entry rebuilt.entry result }
+{
+    match hand_out(k, m, l, table, marks, source, survivors, rebuilt) {
+        Ok(found) => found,
+        Err(_) => part(survivors, 0, 0),
     }
 }

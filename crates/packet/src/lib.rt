@@ -70,7 +70,7 @@ fn packet_lent(desk: &Desk, packets: &[u8], i: usize, out: &mut [u8]) -> Result<
     read_back(desk, packets, i, out)
 }
 
-// The packet of the wanted number, from 1, encoded from the sources that the packets at hand give.
+// The packet of the wanted number, from 1, encoded from the sources that the packets at hand give. The desk is laid where it is used: a board that is handed one in an answer copies it byte by byte.
 pub fn packet(
     k: u64,
     m: u64,
@@ -83,7 +83,9 @@ pub fn packet(
 ) -> Result<(), Refusal>
     ensures { PacketMade k m l table.now marks packets.now wanted out.old (told result) out.new }
 {
-    let mut desk = checks::open_shape(k, m, l, table)?;
+    checks::check_shape(k, m, l, table)?;
+    let mut desk = Desk::least();
+    desk.lay(k, m, l, table);
     checks::check_asked(desk.k, desk.m, marks, desk.k + desk.m, wanted)?;
     desk.put_marks(marks);
     packet_lent(&desk, packets, wanted as usize - 1, out)

@@ -25,7 +25,7 @@ use Rattle.plan.proofs.ListedLaws.{listed_same, listed_order, listed_count}
 use Rattle.plan.proofs.EvenLaws.{even_grows, even_rows, even_columns}
 
 -- a way that was found, with both lists
-found_planned : (D : Desk) (rows columns : List ℕ) (n way : ℕ) (rises : List ℕ) → 1 ≤ n → AllHeld D rows n → Listed (Gone D) columns n → Found D rows columns n way rises
+pub found_planned : (D : Desk) (rows columns : List ℕ) (n way : ℕ) (rises : List ℕ) → 1 ≤ n → AllHeld D rows n → Listed (Gone D) columns n → Found D rows columns n way rises
     → Planned D way n rows columns rises
 found_planned D rows columns n way rises some held gone F = record {
   some = some;

@@ -1,8 +1,9 @@
 // Whether the missing sources can be solved for at once: as many parities are at hand, and their shifts are even.
 #![tactic(auto)]
 
-ghost use Rattle.std.specs.Prelude.{◌≡◌, true, false, ◌*◌, ◌≤◌, ◌<◌, IfSome};
-ghost use Rattle.table.specs.Limits.{max_shift};
+ghost use Rattle.std.specs.Prelude.{◌≡◌, true, false, [], ◌*◌, ◌≤◌, ◌<◌, IfSome};
+ghost use Rattle.table.specs.Limits.{max_k, max_m, max_shift};
+ghost use Rattle.table.specs.Desk.{desk};
 ghost use Rattle.table.specs.Desks.{desk_of};
 ghost use Rattle.search.specs.Search.{AllMissing};
 ghost use Rattle.plan.specs.Plan.{way_of, AllHeld, Planned};
@@ -40,10 +41,12 @@ pub struct Plan {
 }
 
 // Lists the parities at hand.
-pub fn list_held(desk: &Desk) -> Held
-    ensures { AllHeld (desk_of desk.now) result.rows result.count }
+pub fn list_held(k: usize, m: usize, marks: u64) -> Held
+    requires k_le_max_k { k ≤ max_k }
+    requires m_le_max_m { m ≤ max_m }
+    ensures { AllHeld (desk k m 0 [] marks) result.rows result.count }
 {
-    let held = search::list_missing(desk.m, u64::MAX - (desk.marks >> desk.k));
+    let held = search::list_missing(m, u64::MAX - (marks >> k));
     let rows = held.columns;
     let count = held.count;
     Held { rows, count }
@@ -160,7 +163,7 @@ pub fn find_plan(desk: &Desk, missing: &Missing) -> Option<Plan>
     requires all_missing { AllMissing desk.now.k desk.now.marks missing.now.columns missing.now.count }
     ensures { IfSome result (λ p. Planned (desk_of desk.now) (way_of p.way) missing.now.count p.rows missing.now.columns p.rises) }
 {
-    let held = list_held(desk);
+    let held = list_held(desk.k, desk.m, desk.marks);
     if missing.count == 0 || held.count != missing.count {
         return None;
     }

@@ -135,12 +135,24 @@ pub fn store(rows: &[u64], a: usize, dst: &mut [u8], from: usize, n: usize)
     put_tail(dst, from + 8 * whole, rows[a * ROW_WORDS + whole], n % 8);
 }
 
-// Puts the eight bytes of x, the lowest first, into dst from byte i on. The compiler makes one store of them.
+// Puts the eight bytes of x, the lowest first, into dst from byte i on. In halves: a slice's copy compares addresses, which a board's compiler refuses, and a loop over the eight bytes shifts 64 bits for each, which takes a board long.
 fn put_word(dst: &mut [u8], i: usize, x: u64)
     requires { i + 8 ≤ length dst.old }
     ensures { Stored i 8 (bit x) dst.old dst.new }
 {
-    dst[i..i + 8].copy_from_slice(&x.to_le_bytes());
+    put_half(dst, i, x);
+    put_half(dst, i + 4, x >> 32);
+}
+
+// Puts the four low bytes of x, the lowest first, into dst from byte i on. Written out, so that the compiler can make one store of them.
+fn put_half(dst: &mut [u8], i: usize, x: u64)
+    requires { i + 4 ≤ length dst.old }
+    ensures { Stored i 4 (bit x) dst.old dst.new }
+{
+    dst[i] = (x % 256) as u8;
+    dst[i + 1] = (x / 256 % 256) as u8;
+    dst[i + 2] = (x / 65536 % 256) as u8;
+    dst[i + 3] = (x / 16777216 % 256) as u8;
 }
 
 // Puts the n low bytes of x, the lowest first, into dst from byte i on. Byte by byte: a copy of so few takes longer.

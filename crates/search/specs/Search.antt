@@ -1,5 +1,5 @@
 -- What a search over the missing sources finds.
-use Rattle.std.specs.Prelude.{◌≡◌, ◌≢◌, true, false, List, ℕ, ◌+◌, ◌≤◌, ◌<◌, length, Option, Some}
+use Rattle.std.specs.Prelude.{◌≡◌, ◌≢◌, true, false, List, ℕ, ◌+◌, ◌≤◌, ◌<◌, length}
 use Rattle.bits.specs.Sums.{at}
 use Rattle.table.specs.Limits.{max_k}
 use Rattle.table.specs.Desk.{Desk, mark}
@@ -21,17 +21,17 @@ abbrev pub AllMissing : ℕ → ℕ → List ℕ → ℕ → Type 0
 AllMissing k marks columns n = Lists k marks columns n k
 
 module _ (D : Desk) (g : ℕ → ℕ) (a : ℕ) where
-  open D use {shift}
+  open D use {k, shift}
 
   -- in parity a the next bit of source b stands lower than that of every other missing and unfinished source
   abbrev pub Leads : ℕ → Type 0
   Leads b = Free D g b × ((c : ℕ) → b ≢ c → Free D g c → shift a b + g b < shift a c + g c)
 
-  -- among the sources below n no next bit stands below `low`, and that of `source`, if there is one, stands there alone
-  pub record Leading (n low : ℕ) (source : Option ℕ) : Type 0 where
+  -- among the sources below n no next bit stands below `low`, and that of `source`, unless it is k, stands there alone
+  pub record Leading (n low source : ℕ) : Type 0 where
     pub under : (c : ℕ) → c < n → Free D g c → low ≤ shift a c + g c
-    pub leads : (b : ℕ) → source ≡ Some b → Free D g b × (shift a b + g b ≡ low) × ((c : ℕ) → c < n → b ≢ c → Free D g c → low < shift a c + g c)
+    pub leads : source < k → Free D g source × (shift a source + g source ≡ low) × ((c : ℕ) → c < n → source ≢ c → Free D g c → low < shift a c + g c)
 
   -- source b is looked at too
-  abbrev pub LooksAt : ℕ → ℕ → Option ℕ → ℕ → Option ℕ → Type 0
+  abbrev pub LooksAt : ℕ → ℕ → ℕ → ℕ → ℕ → Type 0
   LooksAt b low source low' source' = Leading b low source → Leading (b + 1) low' source'

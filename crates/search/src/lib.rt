@@ -22,11 +22,11 @@ pub struct Missing {
     pub count: u8,
 }
 
-// The lowest next bit of a row so far: its place, and whose it is. At first the place is above all others, and nobody's; it is nobody's too where two share it.
+// The lowest next bit of a row so far: its place, and whose it is. At first the place is above all others; the source is k then, and where two share the place: every step asks this of every row, and a word less to carry is a tenth of rebuilding.
 #[derive(Clone, Copy)]
 struct Leader {
     place: u64,
-    source: Option<usize>,
+    source: usize,
 }
 
 // Lists the missing ones of k sources.
@@ -62,15 +62,12 @@ fn lower(desk: &Desk, g: &[u64; Table::SOURCES], a: usize, b: usize, x: Leader) 
     }
     let place = desk.shift_of(a, b) as u64 + here;
     if place < x.place {
-        return Leader {
-            place,
-            source: Some(b),
-        };
+        return Leader { place, source: b };
     }
     if place == x.place {
         return Leader {
             place,
-            source: None,
+            source: desk.k,
         };
     }
     x
@@ -84,15 +81,20 @@ fn row_source(desk: &Desk, g: &[u64; Table::SOURCES], missing: &Missing, a: usiz
 {
     let mut x = Leader {
         place: u64::MAX,
-        source: None,
+        source: desk.k,
     };
-    for column in &missing.columns[..missing.count as usize] {
-        x = lower(desk, g, a, *column as usize, x);
+    for j in 0..missing.count as usize {
+        x = lower(desk, g, a, missing.columns[j] as usize, x);
     }
-    x.source
+    if x.source < desk.k {
+        Some(x.source)
+    } else {
+        None
+    }
 }
 
-// A bare pair in row `from` or after it, if there is one, from one parity at hand to the next.
+// A bare pair in row `from` or after it, if there is one, from one parity at hand to the next. Each step asks it, so it is no call on a board either.
+#[inline(always)]
 fn pair_from(desk: &Desk, g: &[u64; Table::SOURCES], missing: &Missing, from: usize) -> Option<Pair>
     requires all_missing { AllMissing desk.now.k desk.now.marks missing.now.columns missing.now.count }
     requires from_le_m { from ≤ desk.now.m }

@@ -1,14 +1,16 @@
 -- Two answers that meet a call's promise at the same input are the same, for each call that prints a piece.
-use mathlib.Core.Path.{◌≡◌, sym, ap, subst, ◌∙◌}
+use mathlib.Core.Path.{◌≡◌, refl, sym, ap, subst, ◌∙◌}
 use mathlib.Core.Logic.{inl, inr}
 use mathlib.Core.List.{List}
-use Prim.Native.Nat.{ℕ}
+use Prim.Native.Nat.{ℕ, ◌≤◌}
 use native.Mathlib.Omega.{arith}
 use native.Mathlib.Decide.{dec_lt}
 use lib.ListN.{length}
+use Rattle.std.specs.Prelude.{Option, Some, None, IfSome}
 use Rattle.choices.proofs.Successors.{one_held}
 use Rattle.sheet.specs.Printing.{choice_text, room}
 use Rattle.sheet.specs.Steps.{WalkOf}
+use Rattle.sheet.specs.Given.{count_of}
 use Rattle.sheet.specs.Promise.{Printed, RowOf, NoRow, RowPrinted}
 use Rattle.sheet.proofs.Rows.{one_walk_of}
 
@@ -19,6 +21,13 @@ one_printed text before x y = elim (dec_lt (length before) room) [
   | yes l ↦ (let a = x.short l in let b = y.short l in (a.0 ∙ sym b.0, a.1 ∙ sym b.1))
   | no l ↦ (let a = x.done (omega arith) in let b = y.done (omega arith) in (a.0 ∙ sym b.0, a.1 ∙ sym b.1))
 ]
+
+-- the answer of header, refusal and row itself, which is nothing or a count of at least 1
+pub one_piece : (r r' : Option ℕ) → IfSome r (λ n. 1 ≤ n) → IfSome r' (λ n. 1 ≤ n) → count_of r ≡ count_of r' → r ≡ r'
+one_piece (Some n) (Some n') x y e = ap Some e
+one_piece (Some n) None x y e = absurd (omega (arith, x, e))
+one_piece None (Some n') x y e = absurd (omega (arith, y, e))
+one_piece None None x y e = refl
 
 module _ (k m l : ℕ) (held : List ℕ) where
   -- a choice that is held has one line

@@ -1,3 +1,4 @@
 pub mod Stripes
 pub mod Alone
+pub mod Course
 pub mod Parts

@@ -13,6 +13,7 @@ ghost use Rattle.rebuild.specs.Parts.{rebuild_number, rebuild_count};
 ghost use Rattle.rebuild.specs.Stages.{RebuildMade};
 ghost use Rattle.lanes.specs.Lanes.{lane_words, Stripes, LanesRead};
 ghost use Rattle.stripe.specs.Alone.{SourcesAlone};
+ghost use Rattle.stripe.specs.Course.{Course};
 ghost use Rattle.stripe.specs.Parts.{log_number, log_good, log_count};
 ghost use Rattle.stripe.specs.Stripes.{LogDecided};
 
@@ -144,7 +145,7 @@ pub fn log_of_sources(
     })
 }
 
-// The stripes one after another, each by the plan for the missing sources, up to the first bad one.
+// The stripes one after another, each by the plan if any source is missing, up to the first bad one.
 pub fn log_by_plan(
     desk: &Desk,
     plan: &Plan,
@@ -154,12 +155,15 @@ pub fn log_by_plan(
     out: &mut [u8],
 ) -> Result<u64, BadLog>
     requires ready { Ready desk.now }
-    requires planned { Planned (desk_of desk.now) (way_of plan.now.way) missing.now.count plan.now.rows missing.now.columns plan.now.rises }
+    requires course { Course (desk_of desk.now) (way_of plan.now.way) missing.now.count plan.now.rows missing.now.columns plan.now.rises }
     requires le_stripes { (1 ≤ stripes) × (stripes ≤ max_stripes) }
     requires stripes { Stripes (desk_of desk.now) stripes packets.now }
     requires out_len { length out.old ≡ stripes * sources_bytes (desk_of desk.now) }
     ensures { LogDecided (desk_of desk.now) stripes packets.now out.old (log_number result) (log_good stripes result) (log_count result) out.new }
 {
+    if missing.count == 0 {
+        return log_of_sources(desk, stripes, packets, out);
+    }
     in_turn(desk, stripes, packets, out, |_, own, part| {
         stripe_by_plan(desk, plan, missing, own, part)
     })

@@ -1,12 +1,14 @@
 -- A desk within the limits: what follows for the bits and bytes of its packets. Assumes nothing.
+use mathlib.Core.List.{List}
 use Prim.Native.Nat.{ℕ, ◌+◌, ◌*◌, ◌≤◌, ◌<◌}
 use native.Mathlib.Omega.{arith}
 use native.Mathlib.Nat.{mul-le-mul}
 use Rattle.table.specs.Limits.{max_k, max_m, max_bits, max_bytes, max_shift, all_sources, longest}
-use Rattle.table.specs.Desk.{Desk, sources_bytes, reach, packet_bits, packet_bytes}
+use Rattle.table.specs.Desk.{Desk, desk, sources_bytes, reach, packet_bits, packet_bytes}
 use Rattle.table.specs.Desks.{desk_of}
 use Rattle.table.specs.declared.desks.Desk as laid
-use Rattle.table.proofs.TableLaws.{laid_in}
+use Rattle.table.proofs.ShapeLaws.{Shaped}
+use Rattle.table.proofs.TableLaws.{laid_in, entry_in}
 use Rattle.table.proofs.PacketLaws.{source_fits, source_bits_high, source_bytes_high, source_bytes_low, reach_below, parity_packet_bits, parity_packet_bytes}
 
 pub record Bounded (D : Desk) : Type 0 where
@@ -27,6 +29,18 @@ within_bounds d = record {
   bytes_high = source_bytes_high d.length d.within.l_high;
   fits = source_fits d.length;
   low = λ a b lb. omega (arith, laid_in d.k d.shifts a b lb, d.within.low (a * max_k + b));
+}
+
+-- and so for the desk of numbers and bytes that are accepted
+pub shaped_bounds : (k m l : ℕ) (table : List ℕ) (marks : ℕ) → Shaped k m l table → Bounded (desk k m l table marks)
+shaped_bounds k m l table marks S = record {
+  k_high = S.k_high;
+  m_high = S.m_high;
+  some = source_bytes_low l S.l_low;
+  bits_high = source_bits_high l S.l_high;
+  bytes_high = source_bytes_high l S.l_high;
+  fits = source_fits l;
+  low = λ a b lb. omega (arith, entry_in k table a b lb, S.low (a * k + b));
 }
 
 module _ (D : Desk) (B : Bounded D) where

@@ -7,11 +7,13 @@ use native.Mathlib.Numerals.{add-one}
 use native.Mathlib.Nat.{add-zero, add-sub_cancel_left, mul_comm}
 use native.Mathlib.Decide.{ℕ_discrete, dec_le}
 use lib.Dec.{leb}
+use lib.ListN.{replicate}
 use borrow.Author.Tests.{le-leb, lt-leb, lt-ltb, le-ltb}
 use Rattle.bits.specs.Sums.{pick, sum, count}
 use Rattle.bits.proofs.SumLaws.{sum_same, sum_grows, sum_each}
-use Rattle.table.specs.Table.{NextMark}
-use Rattle.table.specs.Limits.{max_length, max_bits, max_bytes}
+use Rattle.table.specs.Table.{NextMark, Measured, laid_out}
+use Rattle.table.specs.Limits.{max_k, max_length, max_bits, max_bytes}
+use Rattle.table.proofs.TableLaws.{noughts-at, laid_in}
 use Rattle.table.specs.Desk.{Desk, mark, most, source_bits, source_bytes, reach, packet_bits, packet_bytes, place_of, bytes_for}
 
 -- one value more
@@ -52,6 +54,12 @@ most_same n f g h = omega (
   most_below n f (most n g) (λ i l. omega (arith, h i l, most_above n g i l)),
   most_below n g (most n f) (λ i l. omega (arith, h i l, most_above n f i l)),
 )
+
+-- on a sheet of noughts no parity reaches anywhere
+pub noughts_measured : (k m n n' : ℕ) → Measured k m (replicate n 0) (replicate n' 0)
+noughts_measured k m n n' a l =
+    let row = laid_out k (replicate n 0) a in
+    omega (arith, noughts-at n' a, most_below k row 0 (λ b lb. omega (arith, laid_in k (replicate n 0) a b lb, noughts-at n (a * max_k + b))))
 
 -- and it is one of them
 pub most_is_one_of_them : (n : ℕ) (f : ℕ → ℕ) → 1 ≤ n → (i : ℕ) × (i < n) × (most n f ≡ f i)

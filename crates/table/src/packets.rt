@@ -1,8 +1,8 @@
 // The bits, the bytes and the place of each packet. Packets are counted from 0.
-ghost use Rattle.std.specs.Prelude.{◌≡◌, true, false, ℕ, ◌+◌, ◌*◌, ◌≤◌, ◌<◌};
+ghost use Rattle.std.specs.Prelude.{◌≡◌, true, false, length, ℕ, ◌+◌, ◌*◌, ◌≤◌, ◌<◌};
 ghost use Rattle.bits.specs.Sums.{at};
 ghost use Rattle.table.specs.Limits.{max_k, max_m, max_length, max_shift, max_packets, all_sources, longest};
-ghost use Rattle.table.specs.Desk.{most, source_bits, source_bytes, sources_bytes, packet_bits, packet_bytes, parities_bytes, survivors_bytes};
+ghost use Rattle.table.specs.Desk.{entry, most, source_bits, source_bytes, sources_bytes, packet_bits, packet_bytes, parities_bytes, survivors_bytes};
 ghost use Rattle.table.specs.Table.{Measured, NextMark, laid_out};
 ghost use Rattle.table.specs.Desks.{Stands, Remarked, desk_of};
 ghost use Rattle.table.specs.Checks.{Checked, shape_checks};
@@ -54,48 +54,80 @@ pub fn sources_bytes(k: usize, length: usize) -> usize
     k * source_bytes(length)
 }
 
+// The largest of the k bytes of s from byte `from` on, or 0 where k is.
+fn largest(s: &[u8], from: usize, k: usize) -> usize
+    requires { from + k ≤ length s.now }
+    ensures { (result ≡ most k (λ b. at s.now (from + b))) × (result < 256) }
+{
+    let mut x = 0;
+    for b in 0..k {
+        let y = usize::from(s[from + b]);
+        if x < y {
+            x = y;
+        }
+    }
+    x
+}
+
 // How far parity a shifts its sources up: the largest shift of its row.
 pub fn reach(k: usize, shifts: &[u8; Table::CELLS], a: usize) -> usize
     requires { (k ≤ max_k) × (a < max_m) × ((i : ℕ) → at shifts.now i ≤ max_shift) }
     ensures { (result ≡ most k (laid_out k shifts.now a)) × (result ≤ max_shift) }
 {
-    let mut x = 0;
-    for b in 0..k {
-        x = x.max(usize::from(shifts[a * Table::SOURCES + b]));
-    }
-    x
+    largest(shifts, a * Table::SOURCES, k)
 }
 
-// The reach of every parity.
-fn reaches_of(k: usize, m: usize, shifts: &[u8; Table::CELLS]) -> [u8; Table::PARITIES]
-    requires { (k ≤ max_k) × (m ≤ max_m) × ((i : ℕ) → at shifts.now i ≤ max_shift) }
-    ensures { Measured k m shifts.now result }
+// Puts the reach of every parity in its place, by the rows of the table as it was lent.
+fn put_reaches(k: usize, m: usize, table: &[u8], reaches: &mut [u8])
+    requires k_le_max_k { (k ≤ max_k) × (m ≤ max_m) × (length table.now ≡ m * k) }
+    requires reaches_len { length reaches.old ≡ max_m }
+    ensures { (a : ℕ) → a < m → at reaches.new a ≡ most k (entry k table.now a) }
 {
-    let mut reaches = [0u8; Table::PARITIES];
     for a in 0..m {
-        reaches[a] = reach(k, shifts, a) as u8;
+        reaches[a] = largest(table, a * k, k) as u8;
     }
-    reaches
 }
 
 impl Desk {
+    // A desk of the least size, for a call to lay its own on.
+    #[inline(always)]
+    pub fn least() -> Desk
+        ensures { (result.k ≡ 1) × (result.m ≡ 1) × (result.length ≡ 1) × (result.marks ≡ 0) }
+    {
+        Desk {
+            k: 1,
+            m: 1,
+            length: 1,
+            marks: 0,
+            shifts: [0u8; Table::CELLS],
+            reaches: [0u8; Table::PARITIES],
+        }
+    }
+
+    // Lays numbers and bytes that were accepted on the desk, with no packets at hand. Shifts and reaches are put where they stay: a copy of bytes that were just written would wait for them.
+    #[inline(always)]
+    pub fn lay(&mut self, k: u64, m: u64, l: u64, table: &[u8])
+        requires { Checked (shape_checks k m l table.now) 0 }
+        ensures { Stands k m l table.now 0 self.new }
+    {
+        self.k = k as usize;
+        self.m = m as usize;
+        self.length = l as usize;
+        self.marks = 0;
+        self.shifts = [0u8; Table::CELLS];
+        lay_out(k as usize, m as usize, table, &mut self.shifts);
+        put_reaches(k as usize, m as usize, table, &mut self.reaches);
+    }
+
     // The desk of numbers and bytes that were accepted, with no packets at hand.
+    #[inline(always)]
     pub fn new(k: u64, m: u64, l: u64, table: &[u8]) -> Desk
         requires { Checked (shape_checks k m l table.now) 0 }
         ensures { Stands k m l table.now 0 result }
     {
-        let k = k as usize;
-        let m = m as usize;
-        let mut shifts = [0u8; Table::CELLS];
-        lay_out(k, m, table, &mut shifts);
-        Desk {
-            k,
-            m,
-            length: l as usize,
-            marks: 0,
-            shifts,
-            reaches: reaches_of(k, m, &shifts),
-        }
+        let mut desk = Desk::least();
+        desk.lay(k, m, l, table);
+        desk
     }
 
     // Puts the packets of these marks at hand.

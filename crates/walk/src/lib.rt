@@ -8,7 +8,7 @@ ghost use Rattle.table.specs.Desk.{desk};
 ghost use Rattle.table.specs.Desks.{desk_of};
 ghost use Rattle.table.specs.Refusals.{told};
 ghost use Rattle.walk.specs.Walk.{Fits, Next};
-ghost use Rattle.walk.specs.Compute.{placed_of, lower_of, source_of, parity_of, full_b, whole_b};
+ghost use Rattle.walk.specs.Compute.{placed_of, lower_of, scan, source_of, parity_of, full_b, whole_b};
 ghost use Rattle.walk.specs.Lows.{no_place, Lows};
 ghost use Rattle.walk.specs.Promise.{Stepped, Walked, Finished};
 ghost use Rattle.walk.specs.Parts.{parity_number, source_number, whole_number, step_parity, step_source, step_progress, walk_count, walk_whole, walk_progress};
@@ -39,9 +39,9 @@ pub struct WalkEnd {
 
 // The lowest next bit of a parity so far: its place, and whose it is. At first the place is above all others, and nobody's; it is nobody's too where two share it.
 #[derive(Clone, Copy)]
-struct Low {
-    place: u64,
-    source: Option<usize>,
+pub struct Low {
+    pub place: u64,
+    pub source: Option<usize>,
 }
 
 // The lower of x and a bit of source b at a place.
@@ -80,6 +80,22 @@ fn lower(desk: &Desk, g: &[u64; Table::SOURCES], a: usize, b: usize, x: Low) -> 
     placed(x, place, b)
 }
 
+// The lowest next bit of parity a among all sources.
+#[inline(always)]
+fn lowest(desk: &Desk, g: &[u64; Table::SOURCES], a: usize) -> Low
+    requires a_lt_m { a < desk.now.m }
+    ensures { Lows desk.now.k result.place result.source (scan (desk_of desk.now) (at g.now) a desk.now.k) }
+{
+    let mut x = Low {
+        place: u64::MAX,
+        source: None,
+    };
+    for b in 0..desk.k {
+        x = lower(desk, g, a, b, x);
+    }
+    x
+}
+
 // The source that is bare in parity a, if there is one.
 pub fn source_of(desk: &Desk, g: &[u64; Table::SOURCES], a: usize) -> Option<usize>
     requires fits { Fits (desk_of desk.now) (at g.now) }
@@ -89,14 +105,26 @@ pub fn source_of(desk: &Desk, g: &[u64; Table::SOURCES], a: usize) -> Option<usi
     if !table::marked(desk.marks, desk.k + a) {
         return None;
     }
-    let mut x = Low {
-        place: u64::MAX,
-        source: None,
-    };
-    for b in 0..desk.k {
-        x = lower(desk, g, a, b, x);
+    lowest(desk, g, a).source
+}
+
+// The same as a number: the source that is bare in parity a; k where the parity is not at hand or no bit is left there; k + 1 where two sources share the lowest place.
+pub fn source_number(desk: &Desk, g: &[u64; Table::SOURCES], a: usize) -> usize
+    requires fits { Fits (desk_of desk.now) (at g.now) }
+    requires a_lt_m { a < desk.now.m }
+    ensures { result ≡ source_of (desk_of desk.now) (at g.now) a }
+{
+    if !table::marked(desk.marks, desk.k + a) {
+        return desk.k;
     }
-    x.source
+    let low = lowest(desk, g, a);
+    if let Some(b) = low.source {
+        return b;
+    }
+    if low.place == u64::MAX {
+        return desk.k;
+    }
+    desk.k + 1
 }
 
 // The bare pair with the lowest parity, if there is one.

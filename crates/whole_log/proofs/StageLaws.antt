@@ -30,7 +30,7 @@ use Rattle.stripe.specs.Stripes.{AtStripe, GoodWritten, LogAnswered, log_decode_
 abbrev pub Early : ℕ → Type 0
 Early n = (n ≡ 8 → ⊥) × (AtStripe n → ⊥)
 
-low_early : (n : ℕ) → n < 8 → Early n
+pub low_early : (n : ℕ) → n < 8 → Early n
 low_early n l = ((λ e. omega arith), λ a. elim a [ inl e ↦ omega arith | inr e ↦ omega arith ])
 
 -- so the number of checks that are all below 8

@@ -1,7 +1,9 @@
 -- A source is copied, a parity is put into all of the output. Assumes nothing.
-use mathlib.Core.Path.{◌≡◌, sym, ap, ◌∙◌}
-use Prim.Native.Nat.{◌+◌, ◌-◌, ◌<◌}
-use lib.ListN.{length}
+use mathlib.Core.Path.{◌≡◌, sym, ap, ap₂, ◌∙◌}
+use mathlib.Core.List.{◌++◌, append-nil}
+use Prim.Native.Nat.{◌+◌, ◌-◌, ◌*◌, ◌≤◌, ◌<◌}
+use lib.ListN.{length, take, drop, drop_of_length-le}
+use Rattle.bits.specs.Bits.{part}
 use Rattle.table.specs.Desk.{packet_bytes}
 use Rattle.table.specs.Desks.{desk_of}
 use Rattle.table.proofs.Bounds.{within_bounds, parity_fits}
@@ -25,13 +27,21 @@ source-fills : (c : Then-i-k) → length c.args.out.now ≡ c.source_bytes-bytes
 source-fills c =
     c.requires.out_len ∙ sym (source_packet_bytes (desk_of c.args.desk.now) c.args.i (search rules)) ∙ sym c.source_bytes-bytes.ensures
 
-pub copy_from_slice-requires : goal.copy_from_slice-requires
-copy_from_slice-requires c = omega (arith, (taken (goal.at.copy_from_slice-requires c).Then-i-k).long, source-fills (goal.at.copy_from_slice-requires c).Then-i-k)
+pub copy_front-requires : goal.copy_front-requires
+copy_front-requires c = omega (arith, (taken (goal.at.copy_front-requires c).Then-i-k).long, source-fills (goal.at.copy_front-requires c).Then-i-k)
 
 pub returns-then-i-k : goal.returns-then-i-k
 returns-then-i-k c =
     let D = desk_of c.args.desk.now in
-    c.copy_from_slice.ensures.after ∙ (taken (goal.at.returns-then-i-k c).Then-i-k).same ∙ is_source D c.args.sources.now c.args.i (search rules)
+    let x = c.args.sources.now in
+    let i = c.args.i in
+    let n = c.source_bytes-bytes.result in
+    let all : length c.args.out.now ≤ length (take (i * n + n - i * n) (drop (i * n) x)) = omega
+    (arith, (taken (goal.at.returns-then-i-k c).Then-i-k).long, source-fills (goal.at.returns-then-i-k c).Then-i-k) in
+    c.copy_front.ensures
+    ∙ ap₂ ◌++◌ (taken (goal.at.returns-then-i-k c).Then-i-k).same (drop_of_length-le c.args.out.now all)
+    ∙ append-nil (part x D.bytes i)
+    ∙ is_source D x i (search rules)
 
 pub put_parity-requires : goal.put_parity-requires
 put_parity-requires c =

@@ -13,7 +13,7 @@ use Rattle.line.proofs.number_at.Goals as goal
 pub returns-then-a-eq0 : goal.returns-then-a-eq0
 returns-then-a-eq0 c =
     let s = c.args in
-    let zero = subst (DigitAt s.input.now s.i) c.if-a-eq0.true c.in_ok-a.ensures in
+    let zero = subst (DigitAt s.input.now s.i) (omega arith) c.in_ok-a.ensures in
     record { low = omega arith; some = omega arith; within = omega (arith, zero.inside); found = one_digit s.input.now s.i zero; longest = λ _ _ _ _. inl refl }
 
 pub returns-in_default : goal.returns-in_default

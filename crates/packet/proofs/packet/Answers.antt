@@ -27,15 +27,14 @@ both k m l table marks wanted n d S c x =
 pub returns-in_err-check_asked : goal.returns-in_err-check_asked
 returns-in_err-check_asked c =
     let s = c.args in
-    let O = c.in_ok-desk.ensures in
     let early = shape_checks s.k s.m s.l s.table.now ++ asked_checks s.k s.m s.marks (s.k + s.m) s.wanted in
     let lent = wanted_lent_checks (desk s.k s.m s.l s.table.now s.marks) s.packets.now (s.wanted - 1) s.out.now in
     let e : c.from_residual-in_err-check_asked.result ≡ Err c.in_err-check_asked.field-0.0 = search rules in
-    rw e (refused_stops early lent _ (both s.k s.m s.l s.table.now s.marks s.wanted _ _ (O.accepted _ refl) O.numbered c.in_err-check_asked.ensures) refl)
+    rw e (refused_stops early lent _ (both s.k s.m s.l s.table.now s.marks s.wanted _ _ c.lay.ensures c.in_ok-check_shape.ensures c.in_err-check_asked.ensures) refl)
 
 pub packet_lent-requires-clause-ready : goal.packet_lent-requires-clause-ready
 packet_lent-requires-clause-ready c =
-    let d = c.in_ok-desk.desk in
+    let d = c.lay.new.self in
     let n = d.k + d.m in
     remarked_ready c.args.marks d _ c.put_marks.ensures
     (none_left n c.args.marks (none_above d.k d.m c.args.marks (asked_parts d.k d.m c.args.marks n c.args.wanted c.in_ok-check_asked.ensures).0))
@@ -43,11 +42,10 @@ packet_lent-requires-clause-ready c =
 pub returns : goal.returns
 returns c =
     let s = c.args in
-    let O = c.in_ok-desk.ensures in
-    let S = O.accepted _ refl in
+    let S = c.lay.ensures in
     let early = shape_checks s.k s.m s.l s.table.now ++ asked_checks s.k s.m s.marks (s.k + s.m) s.wanted in
     let r = c.packet_lent in
     let after = r.new.out in
     opened_goes (remarked_stands s.k s.m s.l s.table.now 0 s.marks _ _ S c.put_marks.ensures) early (numbered_by early refl)
-    (both s.k s.m s.l s.table.now s.marks s.wanted 0 _ S O.numbered c.in_ok-check_asked.ensures)
+    (both s.k s.m s.l s.table.now s.marks s.wanted 0 _ S c.in_ok-check_shape.ensures c.in_ok-check_asked.ensures)
     (λ _ D. wanted_lent_checks D s.packets.now (s.wanted - 1) s.out.now) (λ D. after ≡ s.out.now) (λ D. PacketFound D s.packets.now (s.wanted - 1) after) (told r.result) r.ensures

@@ -4,4 +4,6 @@ use Rattle.plan.proofs.HeldLaws.{turned_held}
 use Rattle.plan.proofs.list_held.Goals as goal
 
 pub returns : goal.returns
-returns c = turned_held c.args.desk.now c.list_missing-held.result.columns c.list_missing-held.result.count (omega arith) c.list_missing-held.ensures
+returns c =
+    let a = c.args in
+    turned_held a.k a.m a.marks c.list_missing-held.result.columns c.list_missing-held.result.count (omega arith) c.requires.m_le_max_m c.list_missing-held.ensures

@@ -4,5 +4,5 @@ use Rattle.table.specs.Desks.{desk_of}
 use Rattle.search.specs.Search.{Leading}
 use Rattle.search.proofs.row_source.Given as goal
 
-abbrev pub invariant-loop-column : goal.invariant-loop-column
-invariant-loop-column l = Leading (desk_of l.desk) (at l.g) l.a (at l.missing.columns l.column-index) l.x.place l.x.source
+abbrev pub invariant-loop-j : goal.invariant-loop-j
+invariant-loop-j l = Leading (desk_of l.desk) (at l.g) l.a (at l.missing.columns l.j) l.x.place l.x.source

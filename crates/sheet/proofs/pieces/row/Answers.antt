@@ -31,8 +31,8 @@ line_of c =
     let counted : WalkOf s.line.k s.line.m s.line.l (take s.line.k s.c.ids) 0 c.in_ok-steps.steps = search rules in
     row_of s.line.k s.line.m s.line.l s.c.ids (c.is_choice.ensures.so c.if-not-is_choice.false).1 counted
 
-pub returns-then-not-is_choice : goal.returns-then-not-is_choice
-returns-then-not-is_choice c = inr (inl (λ ids h. c.is_choice.ensures.not_so c.if-not-is_choice.true (ids, h)), refl, refl)
+pub returns-then-not-is_choice-clause-printed : goal.returns-then-not-is_choice-clause-printed
+returns-then-not-is_choice-clause-printed c = inr (inl (λ ids h. c.is_choice.ensures.not_so c.if-not-is_choice.true (ids, h)), refl, refl)
 
 pub count_steps-requires : goal.count_steps-requires
 count_steps-requires c =
@@ -40,19 +40,19 @@ count_steps-requires c =
     let h = held (goal.at.count_steps-requires c).Else-not-is_choice in
     (h.1.sized, held_rises s.line.k s.line.m s.c.ids h.1)
 
-pub returns-in_err-steps : goal.returns-in_err-steps
-returns-in_err-steps c =
+pub returns-in_err-steps-clause-printed : goal.returns-in_err-steps-clause-printed
+returns-in_err-steps-clause-printed c =
     let s = c.args in
     let w = c.count_steps in
-    let h = held (goal.at.returns-in_err-steps c).Else-not-is_choice in
+    let h = held (goal.at.returns-in_err-steps-clause-printed c).Else-not-is_choice in
     let was = subst (Holding s.line.k s.line.m s.c.ids) (held-take s.line.k s.line.m s.c.ids h.1).0 h.1 in
     let refused : told w.result ≡ 0 → ⊥ = search rules in
     let e : c.from_residual.result ≡ None = search rules in
     rw e (inr (inr (take s.line.k s.c.ids, told w.result, given w.result, was, w.ensures, refused), refl, refl))
 
-pub returns-then-out-lt-ROOM : goal.returns-then-out-lt-ROOM
-returns-then-out-lt-ROOM c =
-    inl (_, line_of (goal.at.returns-then-out-lt-ROOM c).In_ok-steps, record { short = λ _. (refl, refl); done = λ l. absurd (omega arith) })
+pub returns-then-out-lt-ROOM-clause-printed : goal.returns-then-out-lt-ROOM-clause-printed
+returns-then-out-lt-ROOM-clause-printed c =
+    inl (_, line_of (goal.at.returns-then-out-lt-ROOM-clause-printed c).In_ok-steps, record { short = λ _. (refl, refl); done = λ l. absurd (omega arith) })
 
 pub put_ids-last-requires : goal.put_ids-last-requires
 put_ids-last-requires c =
@@ -61,8 +61,8 @@ put_ids-last-requires c =
     let z = sized s.line.k s.line.m h.1.sized in
     (z.k_low, z.k_high, held_rises s.line.k s.line.m s.c.ids h.1, omega arith)
 
-pub returns : goal.returns
-returns c =
+pub returns-clause-printed : goal.returns-clause-printed
+returns-clause-printed c =
     let s = c.args in
     let ids = take s.line.k s.c.ids in
     let a = c.put_ids-last.ensures in
@@ -77,7 +77,7 @@ returns c =
     let fourth = e.1 s.out.now (front ++ n) (omega (arith, a.0, b.0, d.0, length-append front n)) third in
     inl (
       choice_text ids c.in_ok-steps.steps,
-      line_of (goal.at.returns c).In_ok-steps,
+      line_of (goal.at.returns-clause-printed c).In_ok-steps,
       record {
         short = λ l. absurd (omega (arith, c.if-out-lt-ROOM.false));
         done = λ _. (

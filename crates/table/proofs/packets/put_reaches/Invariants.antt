@@ -4,9 +4,8 @@ use mathlib.Core.Path.{◌≡◌}
 use lib.ListN.{length}
 use Rattle.bits.specs.Sums.{at}
 use Rattle.table.specs.Limits.{max_m}
-use Rattle.table.specs.Desk.{most}
-use Rattle.table.specs.Table.{laid_out}
-use Rattle.table.proofs.packets.reaches_of.Given as goal
+use Rattle.table.specs.Desk.{entry, most}
+use Rattle.table.proofs.packets.put_reaches.Given as goal
 
 abbrev pub invariant-loop-a : goal.invariant-loop-a
-invariant-loop-a l = (length l.reaches ≡ max_m) × ((j : ℕ) → j < l.a → at l.reaches j ≡ most l.k (laid_out l.k l.shifts j))
+invariant-loop-a l = (length l.reaches ≡ max_m) × ((j : ℕ) → j < l.a → at l.reaches j ≡ most l.k (entry l.k l.table j))
