@@ -105,7 +105,6 @@ impl Desk {
     }
 
     // Lays numbers and bytes that were accepted on the desk, with no packets at hand. Shifts and reaches are put where they stay: a copy of bytes that were just written would wait for them.
-    #[inline(always)]
     pub fn lay(&mut self, k: u64, m: u64, l: u64, table: &[u8])
         requires { Checked (shape_checks k m l table.now) 0 }
         ensures { Stands k m l table.now 0 self.new }
