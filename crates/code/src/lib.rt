@@ -4,7 +4,7 @@
 ghost use Rattle.std.specs.Prelude.{◌≡◌, length, ◌+◌, ◌≤◌, ◌<◌};
 ghost use Rattle.rows.specs.Rows.{HasRow, AddedTo, Stored};
 ghost use Rattle.table.specs.Limits.{longest};
-ghost use Rattle.table.specs.Desk.{sources_bytes, packet_bytes, parities_bytes};
+ghost use Rattle.table.specs.Desk.{source_bytes, sources_bytes, packet_bytes, parities_bytes};
 ghost use Rattle.table.specs.Desks.{desk_of};
 ghost use Rattle.code.specs.Code.{sum_of, parity, sources_of, packet_of, parities_of};
 
@@ -19,7 +19,19 @@ pub fn add_row(desk: &Desk, a: usize, sources: &[u8], rows: &mut [u64], at: usiz
     requires has_row { HasRow rows.old at }
     ensures { AddedTo at (sum_of (desk_of desk.now) (sources_of (desk_of desk.now) sources.now) a) rows.old rows.new }
 {
-    let bytes = desk.source_bytes();
+    add_row_of(desk, a, desk.source_bytes(), sources, rows, at);
+}
+
+// Adds every source, of so many bytes as the desk says, in the same way. The number is told: read off the desk at each row, it would keep the compiler from making the loop over the rows twice,
+// once for the longest sources and once for all others.
+#[inline(always)]
+fn add_row_of(desk: &Desk, a: usize, bytes: usize, sources: &[u8], rows: &mut [u64], at: usize)
+    requires a_lt_m { a < desk.now.m }
+    requires bytes_value { bytes ≡ source_bytes desk.now.length }
+    requires shifts_in_bounds { sources_bytes (desk_of desk.now) ≤ length sources.now }
+    requires has_row { HasRow rows.old at }
+    ensures { AddedTo at (sum_of (desk_of desk.now) (sources_of (desk_of desk.now) sources.now) a) rows.old rows.new }
+{
     for b in 0..desk.k {
         let from = b * bytes;
         let end = from + bytes;
@@ -28,17 +40,27 @@ pub fn add_row(desk: &Desk, a: usize, sources: &[u8], rows: &mut [u64], at: usiz
     }
 }
 
-// Parity a of the sources, added up in a row of its own and put into the n bytes of out from byte `from` on. Encoding is the loop over it: with a call a parity it takes a tenth longer.
+// Parity a of the sources, each of so many bytes as the desk says, added up in a row of its own and put into the n bytes of out from byte `from` on. Encoding is the loop over it: with a call a
+// parity it takes a tenth longer.
 #[inline(always)]
-fn put_parity(desk: &Desk, a: usize, sources: &[u8], out: &mut [u8], from: usize, n: usize)
+fn put_parity(
+    desk: &Desk,
+    a: usize,
+    bytes: usize,
+    sources: &[u8],
+    out: &mut [u8],
+    from: usize,
+    n: usize,
+)
     requires a_lt_m { a < desk.now.m }
+    requires bytes_value { bytes ≡ source_bytes desk.now.length }
     requires shifts_in_bounds { sources_bytes (desk_of desk.now) ≤ length sources.now }
     requires n_le_longest { n ≤ longest }
     requires n_in_bounds { from + n ≤ length out.old }
     ensures { Stored from n (parity (desk_of desk.now) (sources_of (desk_of desk.now) sources.now) a) out.old out.new }
 {
     let mut row = [0u64; ROW_WORDS];
-    add_row(desk, a, sources, &mut row, 0);
+    add_row_of(desk, a, bytes, sources, &mut row, 0);
     rows::bytes::store(&row, 0, out, from, n);
 }
 
@@ -48,11 +70,12 @@ pub fn encode_parities(desk: &Desk, sources: &[u8], out: &mut [u8])
     requires out_len { length out.old ≡ parities_bytes (desk_of desk.now) }
     ensures { out.new ≡ parities_of (desk_of desk.now) sources.now }
 {
+    let bytes = desk.source_bytes();
     let mut start = 0;
     for a in 0..desk.m {
-        let bytes = desk.bytes_of(desk.k + a);
-        put_parity(desk, a, sources, out, start, bytes);
-        start += bytes;
+        let n = desk.bytes_of_parity(a);
+        put_parity(desk, a, bytes, sources, out, start, n);
+        start += n;
     }
     bits::known(out);
 }
@@ -72,6 +95,6 @@ pub fn encode_packet(desk: &Desk, i: usize, sources: &[u8], out: &mut [u8])
         bits::copy_front(out, &sources[from..end]);
         return;
     }
-    put_parity(desk, i - k, sources, out, 0, out.len());
+    put_parity(desk, i - k, bytes, sources, out, 0, out.len());
     bits::known(out);
 }

@@ -135,7 +135,8 @@ pub fn store(rows: &[u64], a: usize, dst: &mut [u8], from: usize, n: usize)
     put_tail(dst, from + 8 * whole, rows[a * ROW_WORDS + whole], n % 8);
 }
 
-// Puts the eight bytes of x, the lowest first, into dst from byte i on. In halves: a slice's copy compares addresses, which a board's compiler refuses, and a loop over the eight bytes shifts 64 bits for each, which takes a board long.
+// Puts the eight bytes of x, the lowest first, into dst from byte i on. In halves: a slice's copy compares addresses, which a board's compiler refuses,
+// and a loop over the eight bytes shifts 64 bits for each, which takes a board long.
 fn put_word(dst: &mut [u8], i: usize, x: u64)
     requires { i + 8 ≤ length dst.old }
     ensures { Stored i 8 (bit x) dst.old dst.new }

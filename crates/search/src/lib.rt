@@ -22,7 +22,8 @@ pub struct Missing {
     pub count: u8,
 }
 
-// The lowest next bit of a row so far: its place, and whose it is. At first the place is above all others; the source is k then, and where two share the place: every step asks this of every row, and a word less to carry is a tenth of rebuilding.
+// The lowest next bit of a row so far: its place, and whose it is. At first the place is above all others; the source is k then, and where two share the place.
+// A number and no Option: every step asks this of every row, and a word less to carry is a tenth of rebuilding.
 #[derive(Clone, Copy)]
 struct Leader {
     place: u64,

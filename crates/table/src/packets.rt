@@ -165,6 +165,22 @@ impl Desk {
         sources_bytes(self.k, self.length)
     }
 
+    // The bits of parity a.
+    fn bits_of_parity(&self, a: usize) -> usize
+        requires { a < self.now.m }
+        ensures { (result ≡ packet_bits (desk_of self.now) (self.now.k + a)) × (result ≤ 8 * longest) }
+    {
+        self.source_bits() + usize::from(self.reaches[a])
+    }
+
+    // The bytes of parity a.
+    pub fn bytes_of_parity(&self, a: usize) -> usize
+        requires { a < self.now.m }
+        ensures { (result ≡ packet_bytes (desk_of self.now) (self.now.k + a)) × (result ≤ longest) }
+    {
+        (self.bits_of_parity(a) + 7) / 8
+    }
+
     // The bits of packet i.
     pub fn bits_of(&self, i: usize) -> usize
         requires { i < self.now.k + self.now.m }
@@ -173,7 +189,7 @@ impl Desk {
         if i < self.k {
             return self.source_bits();
         }
-        self.source_bits() + usize::from(self.reaches[i - self.k])
+        self.bits_of_parity(i - self.k)
     }
 
     // The bytes of packet i.
@@ -184,7 +200,7 @@ impl Desk {
         if i < self.k {
             return self.source_bytes();
         }
-        (self.bits_of(i) + 7) / 8
+        self.bytes_of_parity(i - self.k)
     }
 
     // The bytes of all parities.
@@ -193,7 +209,7 @@ impl Desk {
     {
         let mut total = 0;
         for a in 0..self.m {
-            total += self.bytes_of(self.k + a);
+            total += self.bytes_of_parity(a);
         }
         total
     }

@@ -50,6 +50,7 @@ put_parity-requires c =
     let e : c.args.desk.now.k + a ≡ c.args.i = omega arith in
     let fits = parity_fits D (within_bounds c.args.desk.now) a in record {
       a_lt_m = omega arith;
+      bytes_value = c.source_bytes-bytes.ensures;
       shifts_in_bounds = omega (arith, c.requires.sources_len);
       n_le_longest = omega (arith, fits, ap (packet_bytes D) e, c.requires.out_len);
       n_in_bounds = omega arith;

@@ -14,11 +14,11 @@ pub put_parity-requires-clause-n_in_bounds : goal.put_parity-requires-clause-n_i
 put_parity-requires-clause-n_in_bounds c =
     let D = desk_of c.args.desk.now in
     let ends = parities_grow D c.args.sources.now (c.loop-a.a + 1) c.args.desk.now.m (omega arith) in
-    omega (arith, c.loop-a.invariant.0, c.bytes_of-bytes.ensures.0, c.requires.out_len, parities_more D c.loop-a.a, ends)
+    omega (arith, c.loop-a.invariant.0, c.bytes_of_parity-n.ensures.0, c.requires.out_len, parities_more D c.loop-a.a, ends)
 
 pub loop-a-preserved : goal.loop-a-preserved
 loop-a-preserved c =
-    let n = c.bytes_of-bytes in
+    let n = c.bytes_of_parity-n in
     let s = c.args in
     let D = desk_of s.desk.now in
     let x = s.sources.now in (

@@ -11,4 +11,4 @@ pub loop-a-preserved : goal.loop-a-preserved
 loop-a-preserved c =
     let s = c.args in
     let next = parities_more (desk_of s.self.now) c.loop-a.a in
-    (omega (arith, c.loop-a.invariant.0, c.bytes_of-total.ensures.0, next), omega (arith, c.bytes_of-total.ensures.1))
+    (omega (arith, c.loop-a.invariant.0, c.bytes_of_parity-total.ensures.0, next), omega (arith, c.bytes_of_parity-total.ensures.1))
