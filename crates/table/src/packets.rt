@@ -1,13 +1,13 @@
 // The bits, the bytes and the place of each packet. Packets are counted from 0.
-ghost use Rattle.std.specs.Prelude.{◌≡◌, true, false, length, ℕ, ◌+◌, ◌*◌, ◌≤◌, ◌<◌};
+ghost use Rattle.std.specs.Prelude.{◌≡◌, true, false, length, ℕ, ◌+◌, ◌*◌, ◌/◌, ◌%◌, ◌≤◌, ◌<◌};
 ghost use Rattle.bits.specs.Sums.{at};
-ghost use Rattle.table.specs.Limits.{max_k, max_m, max_length, max_shift, max_packets, all_sources, longest};
+ghost use Rattle.table.specs.Limits.{max_k, max_m, max_length, max_shift, max_packets, all_sources, longest, cells};
 ghost use Rattle.table.specs.Desk.{entry, most, source_bits, source_bytes, sources_bytes, packet_bits, packet_bytes, parities_bytes, survivors_bytes};
 ghost use Rattle.table.specs.Table.{Measured, NextMark, laid_out};
 ghost use Rattle.table.specs.Desks.{Stands, Remarked, desk_of};
 ghost use Rattle.table.specs.Checks.{Checked, shape_checks};
 
-use crate::{Desk, Table, lay_out};
+use crate::{Desk, Table, lay_row};
 
 // The first packet present from packet i on, or n where there is none below n.
 pub fn next_present(marks: u64, i: usize, n: usize) -> usize
@@ -77,13 +77,17 @@ pub fn reach(k: usize, shifts: &[u8; Table::CELLS], a: usize) -> usize
     largest(shifts, a * Table::SOURCES, k)
 }
 
-// Puts the reach of every parity in its place, by the rows of the table as it was lent.
-fn put_reaches(k: usize, m: usize, table: &[u8], reaches: &mut [u8])
+// Lays the bytes of a table, row by row, out on a sheet of noughts, and puts the reach of every parity in its place. Row by row for both: two loops over the rows take a short table longer.
+fn lay_rows(k: usize, m: usize, table: &[u8], shifts: &mut [u8], reaches: &mut [u8])
     requires k_le_max_k { (k ≤ max_k) × (m ≤ max_m) × (length table.now ≡ m * k) }
+    requires shifts_len { length shifts.old ≡ cells }
+    requires by_index { (i : ℕ) → at shifts.old i ≡ 0 }
     requires reaches_len { length reaches.old ≡ max_m }
-    ensures { (a : ℕ) → a < m → at reaches.new a ≡ most k (entry k table.now a) }
+    ensures laid { (i : ℕ) → i < cells → at shifts.new i ≡ entry k table.now (i / max_k) (i % max_k) }
+    ensures measured { (a : ℕ) → a < m → at reaches.new a ≡ most k (entry k table.now a) }
 {
     for a in 0..m {
+        lay_row(k, table, a, shifts);
         reaches[a] = largest(table, a * k, k) as u8;
     }
 }
@@ -114,8 +118,13 @@ impl Desk {
         self.length = l as usize;
         self.marks = 0;
         self.shifts = [0u8; Table::CELLS];
-        lay_out(k as usize, m as usize, table, &mut self.shifts);
-        put_reaches(k as usize, m as usize, table, &mut self.reaches);
+        lay_rows(
+            k as usize,
+            m as usize,
+            table,
+            &mut self.shifts,
+            &mut self.reaches,
+        );
     }
 
     // The desk of numbers and bytes that were accepted, with no packets at hand.

@@ -9,27 +9,25 @@ use Rattle.table.specs.Table.{laid_out}
 use Rattle.table.proofs.ShapeLaws.{Shaped, shaped}
 use Rattle.table.proofs.TableLaws.{laid_entries, laid_low}
 use Rattle.table.proofs.desks.Desk.lay.Goals as goal
-use Rattle.table.proofs.desks.Desk.lay.Goals.{Start, After-put_reaches}
+use Rattle.table.proofs.desks.Desk.lay.Goals.{Start, After-lay_rows}
 
 accepted : (s : Start) → let a = s.args in Shaped a.k a.m a.l a.table.now
 accepted s = let a = s.args in shaped a.k a.m a.l a.table.now s.requires
 
 -- the sheet holds the entries of the table
-laid : (c : After-put_reaches) → laid_out c.args.k c.lay_out.new.shifts ≡ entry c.args.k c.args.table.now
+laid : (c : After-lay_rows) → laid_out c.args.k c.lay_rows.new.shifts ≡ entry c.args.k c.args.table.now
 laid c =
     let a = c.args in
     let z = accepted (goal.at.invariant_of-self c).Start in
-    laid_entries a.k a.m a.table.now c.lay_out.new.shifts z.k_high z.m_high z.size (search rules) c.lay_out.ensures
+    laid_entries a.k a.m a.table.now c.lay_rows.new.shifts z.k_high z.m_high z.size (search rules) c.lay_rows.ensures.laid
 
-pub put_reaches-requires : goal.put_reaches-requires
-put_reaches-requires c = let z = accepted (goal.at.put_reaches-requires c).Start in record { k_le_max_k = (z.k_high, z.m_high, z.size); reaches_len = search rules }
-
-pub lay_out-requires : goal.lay_out-requires
-lay_out-requires c =
-    let z = accepted (goal.at.lay_out-requires c).Start in record {
+pub lay_rows-requires : goal.lay_rows-requires
+lay_rows-requires c =
+    let z = accepted (goal.at.lay_rows-requires c).Start in record {
       k_le_max_k = (z.k_high, z.m_high, z.size);
       shifts_len = search rules;
       by_index = λ i. get_or-zeros cells i;
+      reaches_len = search rules;
     }
 
 pub invariant_of-self : goal.invariant_of-self
@@ -46,9 +44,9 @@ invariant_of-self c =
             m_high = z.m_high;
             l_low = z.l_low;
             l_high = z.l_high;
-            low = laid_low a.k a.table.now c.lay_out.new.shifts (search rules) z.low c.lay_out.ensures;
+            low = laid_low a.k a.table.now c.lay_rows.new.shifts (search rules) z.low c.lay_rows.ensures.laid;
           };
-      measured = λ x l. c.put_reaches.ensures x l ∙ ap (λ (f : ℕ → ℕ → ℕ). most a.k (f x)) (sym same);
+      measured = λ x l. c.lay_rows.ensures.measured x l ∙ ap (λ (f : ℕ → ℕ → ℕ). most a.k (f x)) (sym same);
     }
 
 pub returns : goal.returns
@@ -57,5 +55,5 @@ returns c = record {
   m_is = refl;
   length_is = refl;
   marks_are = refl;
-  shifts_are = laid (goal.at.returns c).After-put_reaches;
+  shifts_are = laid (goal.at.returns c).After-lay_rows;
 }
