@@ -9,7 +9,7 @@ ghost use Rattle.table.specs.Desks.{desk_of};
 ghost use Rattle.table.specs.Refusals.{told};
 ghost use Rattle.walk.specs.Walk.{Fits, Next};
 ghost use Rattle.walk.specs.Compute.{placed_of, lower_of, scan, source_of, parity_of, full_b, whole_b};
-ghost use Rattle.walk.specs.Lows.{no_place, Lows};
+ghost use Rattle.walk.specs.Lows.{no_place, LowsApart};
 ghost use Rattle.walk.specs.Promise.{Stepped, Walked, Finished};
 ghost use Rattle.walk.specs.Parts.{parity_number, source_number, whole_number, step_parity, step_source, step_progress, walk_count, walk_whole, walk_progress};
 
@@ -47,7 +47,7 @@ pub struct Low {
 // The lower of x and a bit of source b at a place.
 fn placed(x: Low, place: u64, b: usize) -> Low
     requires place_bound { place < no_place }
-    ensures { (k : ℕ) → b < k → (s : ℕ × ℕ) → Lows k x.place x.source s → Lows k result.place result.source (placed_of k s place b) }
+    ensures { (k : ℕ) → b < k → (s : ℕ × ℕ) → LowsApart k x.place x.source s → LowsApart k result.place result.source (placed_of k s place b) }
 {
     if place < x.place {
         return Low {
@@ -68,7 +68,7 @@ fn placed(x: Low, place: u64, b: usize) -> Low
 fn lower(desk: &Desk, g: &[u64; Table::SOURCES], a: usize, b: usize, x: Low) -> Low
     requires a_lt_m { a < desk.now.m }
     requires b_lt_k { b < desk.now.k }
-    ensures { (s : ℕ × ℕ) → Lows desk.now.k x.place x.source s → Lows desk.now.k result.place result.source (lower_of (desk_of desk.now) (at g.now) a b s) }
+    ensures { (s : ℕ × ℕ) → LowsApart desk.now.k x.place x.source s → LowsApart desk.now.k result.place result.source (lower_of (desk_of desk.now) (at g.now) a b s) }
 {
     if table::marked(desk.marks, b) {
         return x;
@@ -84,7 +84,7 @@ fn lower(desk: &Desk, g: &[u64; Table::SOURCES], a: usize, b: usize, x: Low) -> 
 #[inline(always)]
 fn lowest(desk: &Desk, g: &[u64; Table::SOURCES], a: usize) -> Low
     requires a_lt_m { a < desk.now.m }
-    ensures { Lows desk.now.k result.place result.source (scan (desk_of desk.now) (at g.now) a desk.now.k) }
+    ensures { LowsApart desk.now.k result.place result.source (scan (desk_of desk.now) (at g.now) a desk.now.k) }
 {
     let mut x = Low {
         place: u64::MAX,

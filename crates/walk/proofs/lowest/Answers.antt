@@ -6,12 +6,12 @@ use Prim.Native.Nat.{ℕ}
 use Rattle.bits.specs.Sums.{at}
 use Rattle.table.specs.Desks.{desk_of}
 use Rattle.walk.specs.Compute.{scan}
-use Rattle.walk.specs.Lows.{Lows, nobody}
+use Rattle.walk.specs.Lows.{nobody, LowsApart}
 use Rattle.walk.proofs.lowest.Goals as goal
 
 pub loop-b-init : goal.loop-b-init
 unfolding scan
-loop-b-init c = nobody refl refl refl
+loop-b-init c = record { lows = nobody refl refl refl; below = λ _ e. omega (arith, e) }
 
 pub loop-b-preserved : goal.loop-b-preserved
 unfolding scan
@@ -24,4 +24,4 @@ returns c =
     let x = c.args in
     let l = c.loop-b in
     let e : l.b ≡ x.desk.now.k = omega arith in
-    subst (λ (n : ℕ). Lows x.desk.now.k l.x.place l.x.source (scan (desk_of x.desk.now) (at x.g.now) x.a n)) e l.invariant
+    subst (λ (n : ℕ). LowsApart x.desk.now.k l.x.place l.x.source (scan (desk_of x.desk.now) (at x.g.now) x.a n)) e l.invariant

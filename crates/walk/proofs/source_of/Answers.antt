@@ -14,4 +14,4 @@ pub returns : goal.returns
 returns c =
     let x = c.args in
     let r = c.lowest.result in
-    kept_found (desk_of x.desk.now) (at x.g.now) x.a x.desk.now.k r.place r.source refl (sym c.marked.ensures ∙ c.if-not-marked.false) c.lowest.ensures
+    kept_found (desk_of x.desk.now) (at x.g.now) x.a x.desk.now.k r.place r.source refl (sym c.marked.ensures ∙ c.if-not-marked.false) c.lowest.ensures.lows
